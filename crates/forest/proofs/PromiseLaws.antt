@@ -1,0 +1,81 @@
+-- PROOFS. The promises: they keep words sound, settle the outcome, and follow from one pool
+use mathlib.Core.Path.{_≡_, refl, sym, ap, _∙_}
+use mathlib.Core.List.{List}
+use Prim.Native.Nat.{ℕ, suc, _+_, _*_, _≤_, _<_}
+use native.Mathlib.Omega.{arith}
+use lib.ListN.{length, getD}
+use Rattle.forest.specs.declared.Answer.{Answer}
+use Rattle.forest.specs.declared.Cursor.{Cursor}
+use Rattle.forest.specs.Answers.{refusal}
+use Rattle.forest.specs.Pools.{Pool, WellFormed, Sound, encode, Call, call, root, treeOf}
+use Rattle.forest.specs.Cursors.{Move, move}
+use Rattle.forest.specs.Promises.{Calls, Moves}
+use Rattle.forest.proofs.PoolLaws.{call-formed}
+use Rattle.forest.proofs.CursorCalls.{move-formed}
+use Rattle.forest.proofs.CountLaws.{encode-length}
+use Rattle.forest.proofs.WordLaws.{first-word, count-word}
+use Rattle.forest.proofs.UniqueLaws.{same-pool}
+
+module _ (m : ℕ) (lo : 1 ≤ m) where
+  -- sound words stay sound
+  pub calls-sound : m ≤ 4 → (c : Call) (before after : List ℕ) (r : Answer) → Calls m c before after r → Sound m before → Sound m after
+  calls-sound hi c before after r k s = record {
+    pool = (call c (s .pool)) .pool;
+    formed = call-formed m lo hi c (s .pool) (s .formed);
+    same = k .sound-words (s .pool) (s .formed) (s .same);
+  }
+
+  pub moves-sound : m ≤ 4 → (v : Move) (c : Cursor) (before after : List ℕ) (r : Answer) (d : Cursor) → Moves m v c before after r d → Sound m before → Sound m after
+  moves-sound hi v c before after r d k s = record {
+    pool = (move v c (s .pool)) .pool;
+    formed = move-formed m lo hi v c (s .pool) (s .formed);
+    same = k .sound-words (s .pool) (s .formed) (s .same);
+  }
+
+  -- one pool is enough to keep the promise: there is no other
+  pub calls-by : (c : Call) (before after : List ℕ) (r : Answer) (s : Sound m before) → encode ((call c (s .pool)) .pool) ≡ after → (call c (s .pool)) .answer ≡ r → Calls m c before after r
+  calls-by c before after r s e a = record {
+    sound-words = λ p w b. ap (λ (q : Pool). encode ((call c q) .pool)) (same-pool m lo p (s .pool) w (s .formed) (b ∙ sym (s .same))) ∙ e;
+    sound-answer = λ p w b. ap (λ (q : Pool). (call c q) .answer) (same-pool m lo p (s .pool) w (s .formed) (b ∙ sym (s .same))) ∙ a;
+    unsound-words = λ n. absurd (n s);
+    unsound-answer = λ n. absurd (n s);
+  }
+
+  pub calls-unsound : (c : Call) (before : List ℕ) → (Sound m before → ⊥) → Calls m c before before (refusal 1)
+  calls-unsound c before n = record {
+    sound-words = λ p w b. absurd (n (record { pool = p; formed = w; same = b }));
+    sound-answer = λ p w b. absurd (n (record { pool = p; formed = w; same = b }));
+    unsound-words = λ k. refl;
+    unsound-answer = λ k. refl;
+  }
+
+-- two outcomes that keep the promise are the same, whether the words are sound or not
+module _ (m : ℕ) (c : Call) (before x y : List ℕ) (r s : Answer) (a : Calls m c before x r) (b : Calls m c before y s) where
+  pub one-outcome-sound : Sound m before → (x ≡ y) × (r ≡ s)
+  one-outcome-sound o = (
+    sym (a .sound-words (o .pool) (o .formed) (o .same)) ∙ b .sound-words (o .pool) (o .formed) (o .same),
+    sym (a .sound-answer (o .pool) (o .formed) (o .same)) ∙ b .sound-answer (o .pool) (o .formed) (o .same),
+  )
+
+  pub one-outcome-unsound : (Sound m before → ⊥) → (x ≡ y) × (r ≡ s)
+  one-outcome-unsound n = (a .unsound-words n ∙ sym (b .unsound-words n), a .unsound-answer n ∙ sym (b .unsound-answer n))
+
+-- what a function on sound words needs for its indices
+pub sound-T : (m : ℕ) (ws : List ℕ) → Sound m ws → (1 ≤ getD ws 0 0) × (getD ws 0 0 ≤ 32)
+sound-T m ws s =
+    let e : getD ws 0 0 ≡ length (s .pool .trees) = ap (λ (u : List ℕ). getD u 0 0) (sym (s .same)) ∙ first-word (s .pool) in
+    omega (arith, s .formed .some-trees, s .formed .few-trees)
+
+pub sound-N : (m : ℕ) (ws : List ℕ) → Sound m ws → getD ws (suc (getD ws 0 0)) 0 ≤ 512
+sound-N m ws s =
+    let e : getD ws 0 0 ≡ length (s .pool .trees) = ap (λ (u : List ℕ). getD u 0 0) (sym (s .same)) ∙ first-word (s .pool) in
+    let f : getD ws (suc (getD ws 0 0)) 0 ≡ s .pool .count =
+    ap (λ (i : ℕ). getD ws (suc i) 0) e ∙ ap (λ (u : List ℕ). getD u (suc (length (s .pool .trees))) 0) (sym (s .same)) ∙ count-word (s .pool) in
+    omega (arith, s .formed .few-nodes)
+
+pub sound-length : (m : ℕ) (ws : List ℕ) → Sound m ws → length ws ≡ getD ws 0 0 + 17 * getD ws (suc (getD ws 0 0)) 0 + 3
+sound-length m ws s =
+    let e : getD ws 0 0 ≡ length (s .pool .trees) = ap (λ (u : List ℕ). getD u 0 0) (sym (s .same)) ∙ first-word (s .pool) in
+    let f : getD ws (suc (getD ws 0 0)) 0 ≡ s .pool .count =
+    ap (λ (i : ℕ). getD ws (suc i) 0) e ∙ ap (λ (u : List ℕ). getD u (suc (length (s .pool .trees))) 0) (sym (s .same)) ∙ count-word (s .pool) in
+    omega (arith, encode-length (s .pool), ap length (s .same))

@@ -1,0 +1,9 @@
+pub mod Sizes
+pub mod Lists
+pub mod Pairs
+pub mod Answers
+pub mod Rows
+pub mod Trees
+pub mod Pools
+pub mod Cursors
+pub mod Promises

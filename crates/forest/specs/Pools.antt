@@ -1,0 +1,238 @@
+-- DEFINITIONS. A pool of trees, when it is well formed, its words, and the calls
+use mathlib.Core.Path.{_≡_}
+use mathlib.Core.List.{List, [], _∷_, _++_, map, reverse}
+use mathlib.Core.Bool.{Bool, true, false, cond, _&&_}
+use mathlib.Core.Option.{Option, none, some}
+use Prim.Native.Nat.{ℕ, zero, suc, _+_, _-_, _*_, _≤_, _<_}
+use lib.ListN.{length, take, drop, getD, set, replicate}
+use lib.Dec.{ltb, leb, eqb}
+use Rattle.forest.specs.Sizes.{mostTrees, mostNodes, leafCap, leafTag, innerTag, nodeSize, keyWords, linkWords}
+use Rattle.forest.specs.Lists.{once, count, pad}
+use Rattle.forest.specs.Pairs.{Item, insert, delete}
+use Rattle.forest.specs.Rows.{Node, Row, Tree, node, nums, Good}
+use Rattle.forest.specs.declared.Answer.{Answer}
+use Rattle.forest.specs.Answers.{refusal, held}
+use Rattle.forest.specs.Trees.{pairs, numbers, putTree, need, removeTree, freed, getTree}
+
+-- T trees, N nodes, the free numbers with the top of the stack first
+pub record Pool : Type 0 where
+  pub trees : List Tree
+  pub count : ℕ
+  pub free : List ℕ
+
+-- the numbers in use, of all trees
+abbrev pub used : List Tree → List ℕ
+used [] = []
+used (t ∷ ts) = numbers t ++ used ts
+
+abbrev pub AllGood : ℕ → List Tree → Type 0
+AllGood m [] = Unit {0}
+AllGood m (t ∷ ts) = Good m leafCap t × AllGood m ts
+
+-- m is the minimum of a leaf: 3 in document 01
+pub record WellFormed (m : ℕ) (p : Pool) : Type 0 where
+  pub some-trees : 1 ≤ length (p .trees)
+  pub few-trees : length (p .trees) ≤ mostTrees
+  pub few-nodes : p .count ≤ mostNodes
+  pub good : AllGood m (p .trees)
+  -- each number from 1 to N stands once in a tree or in the stack, and no other number does
+  pub each-once : (n : ℕ) → count n (used (p .trees)) + count n (p .free) ≡ once (leb 1 n && leb n (p .count))
+
+-- The words
+
+abbrev pub leafWords : List Item → List ℕ
+leafWords xs = (leafTag + length xs) ∷ (pad keyWords (map (λ (x : Item). x .0) xs) ++ pad linkWords (map (λ (x : Item). x .1) xs))
+
+-- the key of the first item is not stored
+abbrev pub innerWords : List Item → List ℕ
+innerWords xs = (innerTag + (length xs - 1)) ∷ (pad keyWords (map (λ (x : Item). x .0) (drop 1 xs)) ++ pad linkWords (map (λ (x : Item). x .1) xs))
+
+-- the words of node n if it is in the row, or else `or`
+abbrev pub inRow : (List Item → List ℕ) → ℕ → Row → List ℕ → List ℕ
+inRow words n [] or = or
+inRow words n (m ∷ R) or = cond (eqb n (m .num)) (words (m .items)) (inRow words n R or)
+
+abbrev pub inRows : ℕ → List Row → List ℕ → List ℕ
+inRows n [] or = or
+inRows n (R ∷ Rs) or = inRow innerWords n R (inRows n Rs or)
+
+abbrev pub inTree : ℕ → Tree → List ℕ → List ℕ
+inTree n [] or = or
+inTree n (L ∷ Rs) or = inRow leafWords n L (inRows n Rs or)
+
+abbrev pub inTrees : ℕ → List Tree → List ℕ → List ℕ
+inTrees n [] or = or
+inTrees n (t ∷ ts) or = inTree n t (inTrees n ts or)
+
+-- a free node is sixteen zeros
+abbrev pub nodeWords : List Tree → ℕ → List ℕ
+nodeWords ts n = inTrees n ts (pad nodeSize [])
+
+-- the words of c nodes from number n on
+abbrev pub nodesFrom : List Tree → ℕ → ℕ → List ℕ
+nodesFrom ts n zero = []
+nodesFrom ts n (suc c) = nodeWords ts n ++ nodesFrom ts (suc n) c
+
+-- the number of the node at the top, 0 of the empty tree
+abbrev pub rootAbove : Row → List Row → ℕ
+rootAbove R [] = getD (nums R) 0 0
+rootAbove R (S ∷ Ss) = rootAbove S Ss
+
+abbrev pub root : Tree → ℕ
+root [] = 0
+root (L ∷ Rs) = rootAbove L Rs
+
+unfoldable pub encode : Pool → List ℕ
+encode p =
+    length (p .trees) ∷ (map root (p .trees) ++
+    (p .count ∷ (nodesFrom (p .trees) 1 (p .count) ++
+    (length (p .free) ∷ pad (p .count) (reverse (p .free))))))
+
+-- the words are those of a well formed pool; there is one such pool at most (UniqueLaws)
+pub record Sound (m : ℕ) (ws : List ℕ) : Type 0 where
+  pub pool : Pool
+  pub formed : WellFormed m pool
+  pub same : encode pool ≡ ws
+
+-- The calls
+
+-- the free stack of a fresh pool, from n down: top first it is 1, 2, .., N
+abbrev pub fresh-stack : ℕ → ℕ → List ℕ
+fresh-stack n zero = []
+fresh-stack n (suc c) = n ∷ fresh-stack (suc n) c
+
+abbrev pub fresh : ℕ → ℕ → Pool
+fresh T N = record { trees = replicate T []; count = N; free = fresh-stack 1 N }
+
+pub record Done : Type 0 where
+  pub answer : Answer
+  pub pool : Pool
+
+abbrev pub treeOf : Pool → ℕ → Tree
+treeOf p t = getD (p .trees) t []
+
+-- the pool with tree t changed, and another free stack
+abbrev pub withTree : Pool → ℕ → Tree → List ℕ → Pool
+withTree p t x f = record { trees = set (p .trees) t x; count = p .count; free = f }
+
+-- each number of a list is put on top of the stack, in order
+abbrev pub pushAll : List ℕ → List ℕ → List ℕ
+pushAll [] s = s
+pushAll (x ∷ xs) s = pushAll xs (x ∷ s)
+
+-- the requests; the first number is the tree's
+pub data Call : Type 0 where
+  put : ℕ → ℕ → ℕ → Call
+  remove : ℕ → ℕ → Call
+  get : ℕ → ℕ → Call
+
+abbrev pub target : Call → ℕ
+target (put t k v) = t
+target (remove t k) = t
+target (get t k) = t
+
+-- what a call does to its tree, with the numbers `new` to take
+abbrev pub after : Call → List ℕ → Tree → Tree
+after (put t k v) new x = putTree leafCap k v new x
+after (remove t k) new x = removeTree leafCap k x
+after (get t k) new x = x
+
+-- what it takes, what it frees, and what it answers
+abbrev pub takes : Call → Tree → ℕ
+takes (put t k v) x = need leafCap k x
+takes (remove t k) x = 0
+takes (get t k) x = 0
+
+abbrev pub frees : Call → Tree → List ℕ
+frees (put t k v) x = []
+frees (remove t k) x = freed leafCap k x
+frees (get t k) x = []
+
+abbrev pub says : Call → Tree → Answer
+says (put t k v) x = held (getTree k x)
+says (remove t k) x = held (getTree k x)
+says (get t k) x = held (getTree k x)
+
+-- the number of a refusal, 0 if there is none
+unfoldable pub refused : Call → Pool → ℕ
+refused c p =
+    cond (leb (length (p .trees)) (target c)) 2
+    (cond (ltb (length (p .free)) (takes c (treeOf p (target c)))) 4 0)
+
+-- a call that is not refused, done
+unfoldable pub done : Call → Pool → Pool
+done c p =
+    withTree p (target c) (after c (p .free) (treeOf p (target c)))
+    (pushAll (frees c (treeOf p (target c))) (drop (takes c (treeOf p (target c))) (p .free)))
+
+unfoldable pub call : Call → Pool → Done
+call c p =
+    cond (eqb (refused c p) 0)
+    (record { answer = says c (treeOf p (target c)); pool = done c p })
+    (record { answer = refusal (refused c p); pool = p })
+
+-- formatting len words with T trees and N nodes: 5, or 0 where it is done and the words are those of a fresh pool
+unfoldable pub formatted : ℕ → ℕ → ℕ → ℕ
+formatted T N len = cond (leb 1 T && (leb T mostTrees && (leb N mostNodes && eqb len (T + 17 * N + 3)))) 0 5
+
+-- Calls in a row
+
+-- the pool after some calls
+abbrev pub run : List Call → Pool → Pool
+run [] p = p
+run (c ∷ cs) p = run cs ((call c p) .pool)
+
+-- and their answers
+abbrev pub answers : List Call → Pool → List Answer
+answers [] p = []
+answers (c ∷ cs) p = (call c p) .answer ∷ answers cs ((call c p) .pool)
+
+-- is c a call of tree t that is not refused
+abbrev pub counts : ℕ → Call → Pool → Bool
+counts t c p = eqb (target c) t && eqb (refused c p) 0
+
+-- the calls of tree t, those that are refused struck out
+abbrev pub own : ℕ → List Call → Pool → List Call
+own t [] p = []
+own t (c ∷ cs) p = cond (counts t c p) (c ∷ own t cs ((call c p) .pool)) (own t cs ((call c p) .pool))
+
+-- and the answers to these
+abbrev pub ownAnswers : ℕ → List Call → Pool → List Answer
+ownAnswers t [] p = []
+ownAnswers t (c ∷ cs) p = cond (counts t c p) ((call c p) .answer ∷ ownAnswers t cs ((call c p) .pool)) (ownAnswers t cs ((call c p) .pool))
+
+-- The meaning of a call on the list of pairs
+
+abbrev pub acts : Call → List Item → List Item
+acts (put t k v) xs = insert k v xs
+acts (remove t k) xs = delete k xs
+acts (get t k) xs = xs
+
+abbrev pub keyOf : Call → ℕ
+keyOf (put t k v) = k
+keyOf (remove t k) = k
+keyOf (get t k) = k
+
+-- A tree with its numbers erased
+
+-- every number is 0; g is what becomes of an item's second part
+abbrev pub blank : (ℕ → ℕ) → Node → Node
+blank g n = node 0 (map (λ (x : Item). (x .0, g (x .1))) (n .items))
+
+-- the leaves keep keys and values, the inner nodes their keys
+abbrev pub shape : Tree → Tree
+shape [] = []
+shape (L ∷ Rs) = map (blank (λ v. v)) L ∷ map (map (blank (λ v. 0))) Rs
+
+-- Demand 3, for tree t and the calls cs
+
+-- no answer is a refusal
+abbrev pub AllDone : List Answer → Type 0
+AllDone [] = Unit {0}
+AllDone (a ∷ rest) = (a .number ≡ 0) × AllDone rest
+
+-- the calls of t that pool p did not refuse, made alone in pool q: the same answers, no refusal, the same shape
+pub record Alone (t : ℕ) (cs : List Call) (p q : Pool) : Type 0 where
+  pub same-answers : answers (own t cs p) q ≡ ownAnswers t cs p
+  pub all-done : AllDone (answers (own t cs p) q)
+  pub same-shape : shape (treeOf (run (own t cs p) q) t) ≡ shape (treeOf (run cs p) t)

@@ -1,0 +1,104 @@
+// What every crate of the port shares: the sizes of document 01, a call's answer, and the cursor.
+ghost use mathlib.Core.Path.{_≡_};
+ghost use Rattle.forest.specs.Answers.{answerOf, numberOf};
+
+// Children of an inner node at most.
+pub const INNER_SIZE: usize = 8;
+// Entries of a leaf at most.
+pub const LEAF_SIZE: usize = 7;
+// Levels that a cursor has room for.
+pub const MAX_PATH: usize = 16;
+// Words of a node.
+pub const NODE_SIZE: usize = 16;
+// Trees and nodes of a pool at most.
+pub const MAX_TREES: u32 = 32;
+
+pub const MAX_NODES: u32 = 512;
+// What word 0 of a node adds to its number of keys.
+pub const INNER_TAG: u32 = 16;
+
+pub const LEAF_TAG: u32 = 32;
+
+// Why a call is refused.
+pub enum Refusal {
+    Unsound,
+    NoTree,
+    NoPlace,
+    NoRoom,
+    NoFormat,
+}
+
+// What a call answers: nothing found, a value, a pair, or that it is refused.
+pub enum Reply {
+    Nothing,
+    Value(u32),
+    Pair(u32, u32),
+    Refused(Refusal),
+}
+
+// An answer in document 01's numbers.
+pub struct Answer {
+    pub number: u32,
+    pub found: bool,
+    pub key: u32,
+    pub value: u32,
+}
+
+// A place in a tree: of each level from the root the node and the place in it; unused levels hold 0.
+pub struct Cursor {
+    pub tree: u32,
+    pub size: u32,
+    pub nodes: [u32; 16],
+    pub places: [u32; 16],
+}
+
+// What a cursor call hands back.
+pub struct Moved {
+    pub reply: Reply,
+    pub cursor: Cursor,
+}
+
+// The number of a refusal.
+pub fn number(refusal: Refusal) -> u32
+    ensures { λ r. ⌜ r ≡ numberOf refusal ⌝ }
+{
+    match refusal {
+        Refusal::Unsound => 1,
+        Refusal::NoTree => 2,
+        Refusal::NoPlace => 3,
+        Refusal::NoRoom => 4,
+        Refusal::NoFormat => 5,
+    }
+}
+
+// A reply in document 01's numbers.
+pub fn numbered(reply: Reply) -> Answer
+    ensures { λ r. ⌜ r ≡ answerOf reply ⌝ }
+{
+    match reply {
+        Reply::Nothing => Answer {
+            number: 0,
+            found: false,
+            key: 0,
+            value: 0,
+        },
+        Reply::Value(value) => Answer {
+            number: 0,
+            found: true,
+            key: 0,
+            value: value,
+        },
+        Reply::Pair(key, value) => Answer {
+            number: 0,
+            found: true,
+            key: key,
+            value: value,
+        },
+        Reply::Refused(refusal) => Answer {
+            number: number(refusal),
+            found: false,
+            key: 0,
+            value: 0,
+        },
+    }
+}
