@@ -175,6 +175,13 @@ call c p =
 unfoldable pub formatted : ℕ → ℕ → ℕ → ℕ
 formatted T N len = cond (leb 1 T && (leb T mostTrees && (leb N mostNodes && eqb len (T + 17 * N + 3)))) 0 5
 
+-- the words after formatting, and the answer: a refusal by 0 is nothing found
+unfoldable pub formatWords : ℕ → ℕ → List ℕ → List ℕ
+formatWords T N ws = cond (eqb (formatted T N (length ws)) 0) (encode (fresh T N)) ws
+
+unfoldable pub formatAnswer : ℕ → ℕ → List ℕ → Answer
+formatAnswer T N ws = refusal (formatted T N (length ws))
+
 -- Calls in a row
 
 -- the pool after some calls
