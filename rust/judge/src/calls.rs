@@ -1,0 +1,140 @@
+//! Calls, answers and cursors, in the numbers of document 01.
+
+use std::fmt;
+
+/// The calls. The first three have the numbers of the replay program.
+#[derive(Clone, Copy, Debug, PartialEq, Eq)]
+pub enum Op {
+    Put = 1,
+    Remove = 2,
+    Get = 3,
+    Seek = 11,
+    Settle = 12,
+    First = 13,
+    Next = 14,
+    Prev = 15,
+    RemoveAt = 16,
+}
+
+/// Every call with its name in text and the words it takes after the tree number.
+pub const OPS: [(Op, &str, usize); 9] = [
+    (Op::Put, "put", 2),
+    (Op::Remove, "remove", 1),
+    (Op::Get, "get", 1),
+    (Op::Seek, "seek", 1),
+    (Op::Settle, "settle", 0),
+    (Op::First, "first", 0),
+    (Op::Next, "next", 0),
+    (Op::Prev, "prev", 0),
+    (Op::RemoveAt, "removeat", 0),
+];
+
+impl Op {
+    /// Is it a call by key, which takes no cursor?
+    pub fn by_key(self) -> bool {
+        matches!(self, Op::Put | Op::Remove | Op::Get)
+    }
+
+    /// Does it read no more than the tree number of its cursor?
+    pub fn starts(self) -> bool {
+        matches!(self, Op::Seek | Op::First)
+    }
+
+    /// Name and number of words.
+    fn entry(self) -> (&'static str, usize) {
+        let found = OPS.iter().find(|o| o.0 == self).expect("every call is in the table");
+        (found.1, found.2)
+    }
+}
+
+/// One call; key and value are 0 where the call takes none.
+#[derive(Clone, Copy, Debug, PartialEq, Eq)]
+pub struct Call {
+    pub op: Op,
+    pub tree: usize,
+    pub key: u32,
+    pub value: u32,
+}
+
+impl Call {
+    /// A call with a key and a value.
+    pub fn new(op: Op, tree: usize, key: u32, value: u32) -> Self {
+        Self { op, tree, key, value }
+    }
+}
+
+impl fmt::Display for Call {
+    fn fmt(&self, f: &mut fmt::Formatter) -> fmt::Result {
+        let (name, words) = self.op.entry();
+        write!(f, "{name} {}", self.tree)?;
+        for word in [self.key, self.value].iter().take(words) {
+            write!(f, " {word}")?;
+        }
+        Ok(())
+    }
+}
+
+/// Number, found, key and value; only first, next and prev carry a key.
+#[derive(Clone, Copy, Debug, PartialEq, Eq)]
+pub struct Answer {
+    pub number: u32,
+    pub found: bool,
+    pub key: u32,
+    pub value: u32,
+}
+
+impl Answer {
+    /// Done, with a value or not found.
+    pub fn value(value: Option<u32>) -> Self {
+        Self::pair(value.map(|v| (0, v)))
+    }
+
+    /// Done, with a pair or not found.
+    pub fn pair(pair: Option<(u32, u32)>) -> Self {
+        let (key, value) = pair.unwrap_or((0, 0));
+        Self { number: 0, found: pair.is_some(), key, value }
+    }
+}
+
+impl fmt::Display for Answer {
+    fn fmt(&self, f: &mut fmt::Formatter) -> fmt::Result {
+        write!(f, "{} {} {} {}", self.number, u32::from(self.found), self.key, self.value)
+    }
+}
+
+/// Levels a cursor can have.
+pub const LEVELS: usize = 16;
+
+/// A cursor with unused levels 0; nodes are the crate's numbers plus 1.
+#[derive(Clone, Copy, Debug, Default, PartialEq, Eq)]
+pub struct Cursor {
+    pub size: usize,
+    pub nodes: [u32; LEVELS],
+    pub places: [u32; LEVELS],
+}
+
+impl fmt::Display for Cursor {
+    fn fmt(&self, f: &mut fmt::Formatter) -> fmt::Result {
+        write!(f, "{}", self.size)?;
+        for l in 0..self.size {
+            write!(f, " {}.{}", self.nodes[l], self.places[l])?;
+        }
+        Ok(())
+    }
+}
+
+/// Reads one call from a line such as `put 0 35 1035`.
+pub fn parse(line: &str) -> Result<Call, String> {
+    let mut words = line.split_whitespace();
+    let name = words.next().unwrap_or("");
+    let (op, _, count) =
+        OPS.iter().find(|o| o.1 == name).ok_or_else(|| format!("unknown call `{name}`"))?;
+    let rest: Vec<u32> = words
+        .map(|w| w.parse().map_err(|_| format!("`{w}` is no 32-bit number")))
+        .collect::<Result<_, String>>()?;
+    if rest.len() != count + 1 {
+        return Err(format!("`{name}` takes a tree and {count} more, not {} numbers", rest.len()));
+    }
+    let at = |i: usize| rest.get(i).copied().unwrap_or(0);
+    Ok(Call::new(*op, rest[0] as usize, at(1), at(2)))
+}
