@@ -1,18 +1,17 @@
 -- PROOFS. A fresh pool is well formed; in a well formed pool the nodes in use and the free ones are N together; the length of the words
 use mathlib.Core.Path.{_≡_, refl, sym, ap, _∙_}
-use mathlib.Core.List.{List, [], _∷_, _++_, map, reverse}
-use mathlib.Core.Bool.{Bool, true, false, cond, _&&_, true≢false}
-use mathlib.Core.Logic.{_≢_}
+use mathlib.Core.List.{List, [], _∷_, _++_}
+use mathlib.Core.Bool.{Bool, true, false, _&&_}
 use Prim.Native.Nat.{ℕ, zero, suc, _+_, _-_, _*_, _≤_, _<_}
 use native.Mathlib.Omega.{arith}
-use lib.ListN.{length, replicate, length-append, length-map, length-replicate, length-drop}
+use lib.ListN.{length, replicate, length-append, length-map, length-replicate}
 use lib.Dec.{ltb, eqb, leb}
-use borrow.Author.Tests.{lt-ltb, le-ltb, ltb-true, ltb-false, eqb-true, eqb-false, eq-eqb, ne-eqb, le-leb, lt-leb, leb-true, leb-false}
-use Rattle.forest.specs.Lists.{once, total, count, pad}
+use borrow.Author.Tests.{lt-ltb, le-ltb, eqb-true, eqb-false, eq-eqb, ne-eqb, le-leb, lt-leb}
+use Rattle.forest.specs.Lists.{once, count, pad}
 use Rattle.forest.specs.Pairs.{Item}
-use Rattle.forest.specs.Rows.{Row, Tree, Good}
-use Rattle.forest.specs.Pools.{Pool, used, AllGood, WellFormed, fresh, fresh-stack, leafWords, innerWords, inRow, inRows, inTree, inTrees, nodeWords, nodesFrom, root, encode, Sound}
-use Rattle.forest.proofs.ListLaws.{Test, is, isnt, test, tests, total-append}
+use Rattle.forest.specs.Rows.{Row, Tree}
+use Rattle.forest.specs.Pools.{Pool, used, AllGood, WellFormed, fresh, fresh-stack, leafWords, innerWords, inRow, inRows, inTree, inTrees, nodeWords, nodesFrom, encode}
+use Rattle.forest.proofs.ListLaws.{is, isnt, test, tests, total-append}
 
 -- a number from a on, c of them
 abbrev within : ℕ → ℕ → ℕ → Bool

@@ -1,29 +1,29 @@
 -- PROOFS. Moves from any spot, as places in the list of pairs; and the cursor calls on pools
 use mathlib.Core.Path.{_≡_, refl, sym, ap, _∙_}
-use mathlib.Core.List.{List, [], _∷_, _++_, map}
-use mathlib.Core.Bool.{Bool, true, false, cond, _&&_, true≢false}
+use mathlib.Core.List.{List, [], _∷_}
+use mathlib.Core.Bool.{true}
 use mathlib.Core.Logic.{_≢_}
 use mathlib.Core.Option.{Option, none, some}
-use Prim.Native.Nat.{ℕ, zero, suc, _+_, _-_, _*_, _≤_, _<_}
+use Prim.Native.Nat.{ℕ, zero, suc, _+_, _-_, _≤_, _<_}
 use native.Mathlib.Omega.{arith}
-use lib.ListN.{length, take, drop, getD, getElem?, length-map, List·getD-eq-default}
+use lib.ListN.{length, take, getD, length-map}
 use lib.Dec.{ltb, eqb, leb}
-use borrow.Author.Tests.{lt-ltb, le-ltb, ltb-true, ltb-false, eqb-true, eqb-false, eq-eqb, ne-eqb, le-leb, lt-leb, leb-true, leb-false}
-use Rattle.forest.specs.Lists.{sum, parent, offset}
-use Rattle.forest.specs.Pairs.{Item, place}
-use Rattle.forest.specs.Rows.{Node, Row, Tree, size, sizes, joined, Tower, Good}
-use Rattle.forest.specs.Trees.{leafOf, leafItems, pairs, removeTree}
+use borrow.Author.Tests.{lt-ltb, le-ltb, ltb-true, eqb-true, eqb-false, ne-eqb}
+use Rattle.forest.specs.Lists.{sum}
+use Rattle.forest.specs.Pairs.{Item}
+use Rattle.forest.specs.Rows.{Row, Tree, size, sizes, Good}
+use Rattle.forest.specs.Trees.{leafOf, leafItems}
 use Rattle.forest.specs.declared.Cursor.{Cursor}
 use Rattle.forest.specs.Answers.{refusal}
-use Rattle.forest.specs.Pools.{Pool, WellFormed, Call, remove, call, refused, done, treeOf}
-use Rattle.forest.specs.Cursors.{Spot, off, on, leaves, sizeAt, Fits, pairAt, leafStart, leafEnd, first, seek, settle, next, prev, prevPair, position, spotAt, pathOf, Stands, spotOf, pathIn, stands, Move, to-first, to-key, to-next, to-prev, to-settled, to-remove, tells, reads, removed, leftPool, removedSpot, leftSpot, Moved, blocked, moveFrom, move}
-use Rattle.forest.proofs.ListLaws.{Test, is, isnt, test, tests, parent-lt, offset-lt}
+use Rattle.forest.specs.Pools.{Pool, WellFormed, remove, treeOf}
+use Rattle.forest.specs.Cursors.{Spot, off, on, leaves, sizeAt, Fits, pairAt, leafStart, seek, settle, next, prev, position, spotAt, Stands, spotOf, pathIn, stands, Move, to-first, to-key, to-next, to-prev, to-settled, to-remove, reads, removed, leftPool, removedSpot, leftSpot, blocked, moveFrom, move}
+use Rattle.forest.proofs.ListLaws.{is, isnt, test, tests, parent-lt, offset-lt}
 use Rattle.forest.proofs.PairLaws.{place-le}
-use Rattle.forest.proofs.RowLaws.{length-items, sum-sizes}
+use Rattle.forest.proofs.RowLaws.{length-items}
 use Rattle.forest.proofs.TowerLaws.{tower-some}
-use Rattle.forest.proofs.TreeLaws.{NoneEmpty, none-empty, lands}
+use Rattle.forest.proofs.TreeLaws.{NoneEmpty, lands}
 use Rattle.forest.proofs.PoolLaws.{good-at, call-formed}
-use Rattle.forest.proofs.CursorLaws.{pair-at, first-at, next-at, settle-at, settle-pair}
+use Rattle.forest.proofs.CursorLaws.{next-at, settle-at, settle-pair}
 use Rattle.forest.proofs.StandLaws.{stands-fits}
 
 -- a spot on a pair is the spot of its position
@@ -46,13 +46,13 @@ next-past L j e s h k = both ∙ settle-at L j e s h (omega arith)
     both = simp (le-ltb (suc e) (sizeAt L j) (omega arith), le-ltb e (sizeAt L j) (omega arith))
 
 -- prev from a spot behind the first pair
-take-suc : (j : ℕ) (xs : List ℕ) → sum (take (suc j) xs) ≡ sum (take j xs) + getD xs j 0
+pub take-suc : (j : ℕ) (xs : List ℕ) → sum (take (suc j) xs) ≡ sum (take j xs) + getD xs j 0
 take-suc zero [] = refl
 take-suc (suc j) [] = refl
 take-suc zero (x ∷ xs) = omega arith
 take-suc (suc j) (x ∷ xs) = omega (arith, take-suc j xs)
 
-none-at : (L : Row) (j : ℕ) → NoneEmpty L → j < length L → 1 ≤ sizeAt L j
+pub none-at : (L : Row) (j : ℕ) → NoneEmpty L → j < length L → 1 ≤ sizeAt L j
 none-at [] j s h = absurd (omega arith)
 none-at (n ∷ R) zero s h = s .0
 none-at (n ∷ R) (suc j) s h = none-at R j (s .1) (omega arith)
@@ -107,12 +107,23 @@ pub move-done : (v : Move) (c : Cursor) (p : Pool) → blocked v c p ≡ 0 → m
 unfolding move
 move-done v c p e = simp e
 
+-- a move that reads its cursor and is not refused: the cursor stands
+pub blocked-stands : (v : Move) (c : Cursor) (p : Pool) → blocked v c p ≡ 0 → reads v ≡ true → stands (treeOf p (c .tree)) c ≡ true
+unfolding blocked
+blocked-stands v c p e r = elim (test (leb (length (p .trees)) (c .tree))) [
+  | is a ↦ absurd (let z = simp a at e in omega arith)
+  | isnt a ↦ elim (test (stands (treeOf p (c .tree)) c)) [
+    | is b ↦ b
+    | isnt b ↦ absurd (let z = simp (a, r, b) at e in omega arith)
+  ]
+]
+
 module _ (m : ℕ) (lo : 1 ≤ m) (hi : m ≤ 4) where
   removed-formed : (t : ℕ) (o : Option Item) (p : Pool) → WellFormed m p → WellFormed m (removed t o p)
   removed-formed t none p h = h
   removed-formed t (some x) p h = call-formed m lo hi (remove t (x .0)) p h
 
-  left-formed : (v : Move) (t : ℕ) (s : Spot) (p : Pool) → WellFormed m p → WellFormed m (leftPool v t s p)
+  pub left-formed : (v : Move) (t : ℕ) (s : Spot) (p : Pool) → WellFormed m p → WellFormed m (leftPool v t s p)
   left-formed to-first t s p h = h
   left-formed (to-key k) t s p h = h
   left-formed to-next t s p h = h
@@ -145,7 +156,7 @@ module _ (m : ℕ) (lo : 1 ≤ m) (hi : m ≤ 4) where
       same to-remove t s n = absurd (n refl)
 
   -- and its cursor stands
-  left-fits : (v : Move) (t : ℕ) (s : Spot) (p : Pool) → WellFormed m p → (reads v ≡ true → Fits (leaves (treeOf p t)) s) →
+  pub left-fits : (v : Move) (t : ℕ) (s : Spot) (p : Pool) → WellFormed m p → (reads v ≡ true → Fits (leaves (treeOf p t)) s) →
       Fits (leaves (treeOf (leftPool v t s p) t)) (leftSpot v (leaves (treeOf p t)) (leaves (treeOf (leftPool v t s p) t)) s)
   left-fits to-first t s p h f = fits-start (leaves (treeOf p t)) 0
   left-fits (to-key k) t s p h f = fits-seek m k (treeOf p t) lo (good-at m (p .trees) t (h .good))
@@ -157,16 +168,6 @@ module _ (m : ℕ) (lo : 1 ≤ m) (hi : m ≤ 4) where
       go : (o : Option Item) → Fits (leaves (treeOf (removed t o p) t)) (removedSpot o (leaves (treeOf p t)) (leaves (treeOf (removed t o p) t)) s)
       go none = f refl
       go (some x) = fits-at (leaves (treeOf (removed t (some x) p) t)) (position (leaves (treeOf p t)) s)
-
-  blocked-stands : (v : Move) (c : Cursor) (p : Pool) → blocked v c p ≡ 0 → reads v ≡ true → stands (treeOf p (c .tree)) c ≡ true
-  unfolding blocked
-  blocked-stands v c p e r = elim (test (leb (length (p .trees)) (c .tree))) [
-    | is a ↦ absurd (let z = simp a at e in omega arith)
-    | isnt a ↦ elim (test (stands (treeOf p (c .tree)) c)) [
-      | is b ↦ b
-      | isnt b ↦ absurd (let z = simp (a, r, b) at e in omega arith)
-    ]
-  ]
 
   pub moved-stands : (v : Move) (c : Cursor) (p : Pool) → WellFormed m p → blocked v c p ≡ 0 →
       Stands (treeOf ((move v c p) .pool) (c .tree)) ((move v c p) .cursor)

@@ -1,21 +1,21 @@
 -- PROOFS. Cursors: a spot is a place in the list of pairs, and the moves go along it
 use mathlib.Core.Path.{_≡_, refl, sym, ap, _∙_}
-use mathlib.Core.List.{List, [], _∷_, _++_, append-assoc, append-nil, map, reverse, reverse-cons}
-use mathlib.Core.Bool.{Bool, true, false, cond, _&&_, true≢false}
+use mathlib.Core.List.{List, [], _∷_, _++_, append-assoc, append-nil, reverse, reverse-cons}
+use mathlib.Core.Bool.{true, true≢false}
 use mathlib.Core.Option.{Option, none, some}
-use Prim.Native.Nat.{ℕ, zero, suc, _+_, _-_, _*_, _≤_, _<_}
+use Prim.Native.Nat.{ℕ, zero, suc, _+_, _-_, _≤_, _<_}
 use native.Mathlib.Omega.{arith}
-use lib.ListN.{length, take, drop, getD, getElem?, length-append, length-map}
+use lib.ListN.{length, take, drop, getD, getElem?, length-map}
 use lib.Seq.{take-all}
 use lib.Dec.{ltb, eqb, leb}
-use borrow.Author.Tests.{lt-ltb, le-ltb, ltb-true, ltb-false, eqb-true, eqb-false, eq-eqb, ne-eqb, le-leb, lt-leb, leb-true, leb-false}
+use borrow.Author.Tests.{lt-ltb, le-ltb, ltb-true, ltb-false, eqb-true, eq-eqb, ne-eqb, le-leb, leb-true}
 use Rattle.forest.specs.Lists.{removeAt, sum, parent, offset}
-use Rattle.forest.specs.Pairs.{Item, Above, Rising, delete, has, place}
-use Rattle.forest.specs.Rows.{Node, Row, Tree, node, size, sizes, nums, joined, itemsAt, Fill, Tower, Good}
+use Rattle.forest.specs.Pairs.{Item, Above, Rising, has, place, lookup}
+use Rattle.forest.specs.Rows.{Node, Row, Tree, size, sizes, nums, joined, itemsAt, Good}
 use Rattle.forest.specs.Trees.{leafOf, leafItems, pairs, removeTree}
-use Rattle.forest.specs.Cursors.{Spot, off, on, leaves, sizeAt, Fits, pairAt, leafStart, leafEnd, first, seek, settle, next, prev, prevPair, position, spotAt, Path, pathUp, pathOf, indexUnder, spotUp, spotOf, samePath, fits, runs}
-use Rattle.forest.proofs.ListLaws.{Test, is, isnt, test, Tri, tri, less, same, more, tests, parent-lt, parent-start}
-use Rattle.forest.proofs.PairLaws.{has-above, above-trans, place-le, place-lt, place-delete}
+use Rattle.forest.specs.Cursors.{Spot, off, on, leaves, sizeAt, Fits, pairAt, leafStart, first, seek, settle, next, prev, position, spotAt, Path, pathUp, pathOf, indexUnder, spotOf, samePath, fits, runs}
+use Rattle.forest.proofs.ListLaws.{is, isnt, test, tests, parent-lt, parent-start}
+use Rattle.forest.proofs.PairLaws.{place-le, place-lt, place-delete}
 use Rattle.forest.proofs.RowLaws.{sum-sizes, length-items}
 use Rattle.forest.proofs.TowerLaws.{Levels, tower-some, tower-levels}
 use Rattle.forest.proofs.TreeLaws
@@ -164,7 +164,7 @@ seek-at m k L Rs lo g =
     rw (lt-ltb 0 (length L) (tower-some L Rs (g .2)), s .places)
     (settle-at L (leafOf k L) (place k (leafItems k L)) (TreeLaws.none-empty m 7 L lo (g .1)) (s .at) (rw (← length-items L (leafOf k L)) (place-le k (leafItems k L))))
 
--- (7) next after first gives the pairs in order
+-- next after first gives the pairs in order
 abbrev grab : Option Item → List Item → List Item
 grab none rest = []
 grab (some x) rest = x ∷ rest
@@ -180,7 +180,7 @@ drop-nth [] (suc i) n = refl
 drop-nth (x ∷ xs) zero n = refl
 drop-nth (x ∷ xs) (suc i) n = drop-nth xs i n
 
-nth-none : (xs : List Item) (i : ℕ) → length xs ≤ i → getElem? xs i ≡ none
+pub nth-none : (xs : List Item) (i : ℕ) → length xs ≤ i → getElem? xs i ≡ none
 nth-none [] i h = refl
 nth-none (x ∷ xs) zero h = absurd (omega arith)
 nth-none (x ∷ xs) (suc i) h = nth-none xs i (omega arith)
@@ -201,7 +201,12 @@ walk-all m (L ∷ Rs) lo g =
     rw (first-at L s, walk-at L (length (joined L)) 0 s) (take-all (length (joined L)) (joined L) (omega arith))
 
 -- Remove at a cursor: the pair on which it stands is found by its key at that very spot
-nth-has : (xs : List Item) (i : ℕ) (x : Item) → Rising xs → getElem? xs i ≡ some x → (has (x .0) xs ≡ true) × (place (x .0) xs ≡ i) × (i < length xs)
+nth-above : (k : ℕ) (us : List Item) (i : ℕ) (x : Item) → Above k us → getElem? us i ≡ some x → k < x .0
+nth-above k [] i x a e = absurd (let z : _≡_ {A = ℕ} 0 1 = cc in omega arith)
+nth-above k (u ∷ us) zero x a e = let q : u ≡ x = cc in omega (arith, ap (λ (z : Item). z .0) q)
+nth-above k (u ∷ us) (suc i) x a e = nth-above k us i x (a .1) e
+
+pub nth-has : (xs : List Item) (i : ℕ) (x : Item) → Rising xs → getElem? xs i ≡ some x → (has (x .0) xs ≡ true) × (place (x .0) xs ≡ i) × (i < length xs)
 nth-has [] i x r e = absurd (let y : _≡_ {A = ℕ} 0 1 = cc in omega arith)
 nth-has (y ∷ xs) zero x r e =
     let q : y ≡ x = cc in
@@ -209,15 +214,20 @@ nth-has (y ∷ xs) zero x r e =
     (simp (eq-eqb (x .0) (y .0) k), simp (le-ltb (y .0) (x .0) (omega arith)), omega arith)
 nth-has (y ∷ xs) (suc i) x r e =
     let ih = nth-has xs i x (r .1) e in
-    let lt : y .0 < x .0 = under xs i (r .0) e in
+    let lt : y .0 < x .0 = nth-above (y .0) xs i x (r .0) e in
     (simp (ne-eqb (x .0) (y .0) (omega arith)) (ih .0), simp (lt-ltb (y .0) (x .0) lt) (ap suc (ih .1)), omega (arith, ih .2))
-  where
-    under : (us : List Item) (i : ℕ) → Above (y .0) us → getElem? us i ≡ some x → y .0 < x .0
-    under [] i a e = absurd (let z : _≡_ {A = ℕ} 0 1 = cc in omega arith)
-    under (u ∷ us) zero a e = let q : u ≡ x = cc in omega (arith, ap (λ (z : Item). z .0) q)
-    under (u ∷ us) (suc i) a e = under us i (a .1) e
 
-nth-lt : (xs : List Item) (i : ℕ) (x : Item) → getElem? xs i ≡ some x → i < length xs
+-- so it is looked up there
+pub nth-lookup : (xs : List Item) (i : ℕ) (x : Item) → Rising xs → getElem? xs i ≡ some x → lookup (x .0) xs ≡ some (x .1)
+nth-lookup [] i x r e = absurd (let z : _≡_ {A = ℕ} 0 1 = cc in omega arith)
+nth-lookup (y ∷ xs) zero x r e =
+    let q : y ≡ x = cc in
+    rw (eq-eqb (x .0) (y .0) (ap (λ (z : Item). z .0) (sym q))) (ap (λ (z : Item). some (z .1)) q)
+nth-lookup (y ∷ xs) (suc i) x r e =
+    let lt : y .0 < x .0 = nth-above (y .0) xs i x (r .0) e in
+    rw (ne-eqb (x .0) (y .0) (omega arith)) (nth-lookup xs i x (r .1) e)
+
+pub nth-lt : (xs : List Item) (i : ℕ) (x : Item) → getElem? xs i ≡ some x → i < length xs
 nth-lt [] i x e = absurd (let y : _≡_ {A = ℕ} 0 1 = cc in omega arith)
 nth-lt (y ∷ xs) zero x e = omega arith
 nth-lt (y ∷ xs) (suc i) x e = omega (arith, nth-lt xs i x e)
@@ -248,12 +258,12 @@ remove-at-pairs m L Rs j e x lo g h p =
     let n = nth-has (joined L) (position L (on j e)) x (g .0) (pair-position L j e x (TreeLaws.none-empty m 7 L lo (g .1)) h p) in
     TreeLaws.pairs-remove m 7 (x .0) lo (L ∷ Rs) g ∙ sym (place-delete (x .0) (joined L) (g .0) (n .0)) ∙ ap (λ (i : ℕ). removeAt i (joined L)) (n .1)
 
-nth-removeAt : (xs : List Item) (i : ℕ) → i < length xs → getElem? (removeAt i xs) i ≡ getElem? xs (suc i)
+pub nth-removeAt : (xs : List Item) (i : ℕ) → i < length xs → getElem? (removeAt i xs) i ≡ getElem? xs (suc i)
 nth-removeAt [] i h = refl
 nth-removeAt (x ∷ xs) zero h = refl
 nth-removeAt (x ∷ xs) (suc i) h = nth-removeAt xs i (omega arith)
 
-leaves-joined : (t : Tree) → joined (leaves t) ≡ pairs t
+pub leaves-joined : (t : Tree) → joined (leaves t) ≡ pairs t
 leaves-joined [] = refl
 leaves-joined (L ∷ Rs) = refl
 

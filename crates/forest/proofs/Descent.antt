@@ -1,23 +1,19 @@
 -- PROOFS. Going down: in each inner node the child is the count of its stored keys that are not above k, and that leads to the leaf of k; and a tree has at most six levels
-use mathlib.Core.Path.{_≡_, refl, sym, ap, _∙_}
-use mathlib.Core.List.{List, [], _∷_, _++_, append-assoc, append-nil, map}
-use mathlib.Core.Bool.{Bool, true, false, cond}
-use Prim.Native.Nat.{ℕ, zero, suc, _+_, _-_, _*_, _≤_, _<_}
+use mathlib.Core.Path.{_≡_, refl, ap}
+use mathlib.Core.List.{List, [], _∷_, _++_, append-nil, map}
+use Prim.Native.Nat.{ℕ, suc, _+_, _-_, _≤_, _<_}
 use native.Mathlib.Omega.{arith}
-use lib.ListN.{length, take, drop, getD, length-append, length-map}
-use lib.Dec.{ltb, eqb, leb}
-use borrow.Author.Tests.{lt-ltb, le-ltb, ltb-true, ltb-false, le-leb, lt-leb, leb-true, leb-false}
-use Rattle.forest.specs.Lists.{sum, parent, offset, upto}
+use lib.ListN.{length, drop, length-append, length-map}
+use lib.Dec.{leb}
+use borrow.Author.Tests.{lt-ltb, le-ltb, le-leb, lt-leb}
+use Rattle.forest.specs.Lists.{parent, offset, upto}
 use Rattle.forest.specs.Pairs.{Item, Above, Rising}
-use Rattle.forest.specs.Rows.{Node, Row, Tree, node, size, front, sizes, fronts, joined, line, itemsAt, nums, Fill, Tower, Good}
-use Rattle.forest.specs.Trees.{leafOf, numbers}
-use Rattle.forest.specs.Pools.{Pool, WellFormed, used, treeOf}
-use Rattle.forest.proofs.ListLaws.{Test, is, isnt, test, tests, map-append, upto-length}
-use Rattle.forest.proofs.PairLaws.{Below, above-trans, above-right, rising-left, rising-right, rising-seam}
-use Rattle.forest.proofs.TowerLaws.{Levels, tower-some, tower-levels}
+use Rattle.forest.specs.Rows.{Node, Row, size, front, sizes, fronts, joined, line, itemsAt, Tower, Good}
+use Rattle.forest.specs.Trees.{leafOf}
+use Rattle.forest.proofs.ListLaws.{is, isnt, test, tests, map-append, upto-length}
+use Rattle.forest.proofs.PairLaws.{Below, above-right, rising-right, rising-seam}
+use Rattle.forest.proofs.TowerLaws.{tower-some}
 use Rattle.forest.proofs.TreeLaws.{NoneEmpty, none-empty}
-use Rattle.forest.proofs.PoolLaws.{good-at}
-use Rattle.forest.proofs.CountLaws.{nodes-all}
 
 -- the keys of items
 abbrev pub keys : List Item → List ℕ

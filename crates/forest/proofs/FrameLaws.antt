@@ -1,23 +1,23 @@
 -- PROOFS. Which words change: a value replaced, and an entry put into a leaf with room, change the words of that leaf alone
 use mathlib.Core.Path.{_≡_, refl, sym, ap, _∙_}
-use mathlib.Core.List.{List, [], _∷_, _++_, map}
+use mathlib.Core.List.{List, [], _∷_}
 use mathlib.Core.Bool.{Bool, true, false, cond}
 use mathlib.Core.Logic.{_≢_}
-use Prim.Native.Nat.{ℕ, zero, suc, _+_, _-_, _*_, _≤_, _<_}
+use Prim.Native.Nat.{ℕ, zero, suc, _-_, _≤_, _<_}
 use native.Mathlib.Omega.{arith}
-use lib.ListN.{length, take, drop, getD, set}
-use lib.Dec.{ltb, eqb, leb}
-use borrow.Author.Tests.{lt-ltb, le-ltb, ltb-true, ltb-false, le-leb, lt-leb, leb-true, leb-false, eqb-true, eqb-false, ne-eqb, eq-eqb}
-use Rattle.forest.specs.Lists.{insertAt, sum, upto}
+use lib.ListN.{length, take, drop, getD}
+use lib.Dec.{eqb, leb}
+use borrow.Author.Tests.{lt-ltb, leb-true, leb-false, ne-eqb, eq-eqb}
+use Rattle.forest.specs.Lists.{insertAt, upto}
 use Rattle.forest.specs.Pairs.{Item, has, place}
-use Rattle.forest.specs.Rows.{Node, Row, Tree, node, size, sizes, nums, fronts, joined, line, front, itemsAt, putNode, setRow, putRow, full, rekey, refresh, Fill, Tower, Good}
+use Rattle.forest.specs.Rows.{Node, Row, size, nums, fronts, line, front, itemsAt, setRow, putRow, full, rekey, refresh, Tower, Good}
 use Rattle.forest.specs.Trees.{leafOf, leafItems, putLeaf, putTree}
 use Rattle.forest.specs.Pools.{innerWords, leafWords, inRow, inRows, inTree, rootAbove, root}
-use Rattle.forest.proofs.ListLaws.{Test, is, isnt, test, Tri, tri, less, same, more, tests}
+use Rattle.forest.proofs.ListLaws.{is, isnt, test, tri, less, same, more}
 use Rattle.forest.proofs.PairLaws.{place-le}
-use Rattle.forest.proofs.RowLaws.{length-items, setRow-nums, putRow-room, rekey-nums}
+use Rattle.forest.proofs.RowLaws.{length-items, putRow-room, rekey-nums}
 use Rattle.forest.proofs.TowerLaws.{tower-some}
-use Rattle.forest.proofs.TreeLaws.{NoneEmpty, none-empty, Lands, lands}
+use Rattle.forest.proofs.TreeLaws.{NoneEmpty, none-empty, lands}
 use Rattle.forest.proofs.NodeForms.{put-room, put-line, refresh-same}
 
 -- one node of a row changes, and keeps its number

@@ -1,18 +1,17 @@
 -- PROOFS. The node steps in the words of document 01: cut first, then put the new one into its half; and what `rekey` leaves as it was
 use mathlib.Core.Path.{_≡_, refl, sym, ap, _∙_}
-use mathlib.Core.List.{List, [], _∷_, _++_, append-assoc, append-nil, map}
-use mathlib.Core.Bool.{Bool, true, false, cond}
+use mathlib.Core.List.{List, [], _∷_, _++_}
+use mathlib.Core.Bool.{false}
 use Prim.Native.Nat.{ℕ, zero, suc, _+_, _-_, _*_, _≤_, _<_, _/_}
 use native.Mathlib.Omega.{arith}
-use lib.ListN.{length, take, drop, getD, set, length-take, length-drop, take-append-drop, length-map}
+use lib.ListN.{length, take, drop, getD, set, length-drop}
 use lib.Seq.{take-append-seam, drop-append-seam, take-set-lt, take-set-le, drop-set-lt, drop-set-add}
-use lib.Dec.{ltb, eqb, leb}
-use borrow.Author.Tests.{lt-ltb, le-ltb, ltb-true, ltb-false, le-leb, lt-leb, leb-true, leb-false, eqb-true, eqb-false, ne-eqb, eq-eqb}
-use Rattle.forest.specs.Lists.{insertAt, removeAt, sum, parent, offset}
+use lib.Dec.{ltb}
+use borrow.Author.Tests.{lt-ltb, le-ltb, ltb-true, ltb-false, le-leb, lt-leb, leb-false, ne-eqb, eq-eqb}
+use Rattle.forest.specs.Lists.{insertAt, sum, parent, offset}
 use Rattle.forest.specs.Pairs.{Item}
-use Rattle.forest.specs.Rows.{Node, Row, Tree, node, size, sizes, nums, joined, line, itemsAt, front, keeps, putNode, alone, heal, share, setRow, putRow, full, rekey, refresh, Tower}
-use Rattle.forest.proofs.ListLaws.{Test, is, isnt, test, tests}
-use Rattle.forest.proofs.RowLaws.{sum-sizes, length-line}
+use Rattle.forest.specs.Rows.{Node, Row, node, size, sizes, joined, line, front, keeps, putNode, alone, heal, share, setRow, putRow, full, rekey, refresh, Tower}
+use Rattle.forest.proofs.ListLaws.{is, isnt, test}
 
 module _ {A : Type 0} where
   take-insert-left : (h p : ℕ) (x : A) (xs : List A) → p ≤ h → take (suc h) (insertAt p x xs) ≡ insertAt p x (take h xs)

@@ -1,16 +1,16 @@
 -- PROOFS. Sorted lists of pairs: a place decides insert, delete and lookup
 use mathlib.Core.Path.{_≡_, refl, sym, ap, _∙_}
-use mathlib.Core.List.{List, [], _∷_, _++_, append-assoc, append-nil}
-use mathlib.Core.Bool.{Bool, true, false, cond, true≢false}
+use mathlib.Core.List.{List, [], _∷_, _++_}
+use mathlib.Core.Bool.{true, false, true≢false}
 use mathlib.Core.Option.{Option, none, some}
-use Prim.Native.Nat.{ℕ, zero, suc, _+_, _-_, _≤_, _<_}
+use Prim.Native.Nat.{ℕ, _+_, _-_, _≤_, _<_}
 use native.Mathlib.Omega.{arith}
-use lib.ListN.{length, take, drop, getD, set, length-append, length-set}
-use lib.Dec.{ltb, eqb, leb}
-use borrow.Author.Tests.{lt-ltb, le-ltb, ltb-true, ltb-false, eqb-true, eqb-false, eq-eqb, ne-eqb, le-leb, lt-leb, leb-true, leb-false}
+use lib.ListN.{length, getD, set}
+use lib.Dec.{ltb, eqb}
+use borrow.Author.Tests.{lt-ltb, le-ltb, eq-eqb, ne-eqb}
 use Rattle.forest.specs.Lists.{insertAt, removeAt}
 use Rattle.forest.specs.Pairs.{Item, Above, Rising, insert, delete, lookup, has, place}
-use Rattle.forest.proofs.ListLaws.{Test, is, isnt, test, Tri, tri, less, same, more, tests}
+use Rattle.forest.proofs.ListLaws.{is, isnt, test, tri, less, same, more}
 
 pub above-trans : (a b : ℕ) (xs : List Item) → a < b → Above b xs → Above a xs
 above-trans a b [] h _ = tt

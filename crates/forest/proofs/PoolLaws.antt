@@ -1,23 +1,21 @@
 -- PROOFS. Pools: a call keeps them well formed, does what it means, and leaves other trees alone
 use mathlib.Core.Path.{_≡_, refl, sym, ap, _∙_}
-use mathlib.Core.List.{List, [], _∷_, _++_, append-assoc, append-nil, map, reverse}
-use mathlib.Core.Bool.{Bool, true, false, cond, _&&_, true≢false}
+use mathlib.Core.List.{List, [], _∷_}
 use mathlib.Core.Logic.{_≢_}
 use mathlib.Core.Option.{Option, none, some}
-use Prim.Native.Nat.{ℕ, zero, suc, _+_, _-_, _*_, _≤_, _<_}
+use Prim.Native.Nat.{ℕ, zero, suc, _+_, _-_, _≤_, _<_}
 use native.Mathlib.Omega.{arith}
-use lib.ListN.{length, take, drop, getD, set, replicate, length-set, length-append, length-map, length-replicate, length-drop}
-use lib.Seq.{getD-set-same, getD-set-other, set-getD, set-set}
+use lib.ListN.{length, drop, getD, set, length-set, length-append}
+use lib.Seq.{getD-set-same, getD-set-other, set-getD}
 use lib.Dec.{ltb, eqb, leb}
-use borrow.Author.Tests.{lt-ltb, le-ltb, ltb-true, ltb-false, eqb-true, eqb-false, eq-eqb, ne-eqb, le-leb, lt-leb, leb-true, leb-false}
-use Rattle.forest.specs.Lists.{once, total, count, pad}
-use Rattle.forest.specs.Pairs.{Item, insert, delete, lookup, has}
-use Rattle.forest.specs.Rows.{Row, Tree, Good}
-use Rattle.forest.specs.Trees.{pairs, numbers, leafItems, putTree, need, removeTree, freed, getTree}
-use Rattle.forest.specs.declared.Answer.{Answer}
+use borrow.Author.Tests.{lt-ltb, le-ltb, ltb-false, eqb-true, eqb-false, ne-eqb, le-leb, lt-leb, leb-false}
+use Rattle.forest.specs.Lists.{once, total, count}
+use Rattle.forest.specs.Pairs.{lookup, has}
+use Rattle.forest.specs.Rows.{Tree, Good}
+use Rattle.forest.specs.Trees.{pairs, numbers, leafItems, putTree, need, getTree}
 use Rattle.forest.specs.Answers.{refusal, held}
-use Rattle.forest.specs.Pools.{Pool, used, AllGood, WellFormed, Done, treeOf, withTree, pushAll, Call, put, remove, get, target, after, takes, frees, says, refused, done, call, acts, keyOf, fresh, fresh-stack}
-use Rattle.forest.proofs.ListLaws.{Test, is, isnt, test, tests, total-append, total-length}
+use Rattle.forest.specs.Pools.{Pool, used, AllGood, WellFormed, treeOf, pushAll, Call, put, remove, get, target, after, takes, frees, says, refused, done, call, acts, keyOf}
+use Rattle.forest.proofs.ListLaws.{is, isnt, test, total-append}
 use Rattle.forest.proofs.PairLaws.{lookup-has, lookup-insert}
 use Rattle.forest.proofs.TowerLaws.{weight}
 use Rattle.forest.proofs.TreeLaws
@@ -94,7 +92,7 @@ pub call-done : (c : Call) (p : Pool) → refused c p ≡ 0 → call c p ≡ rec
 unfolding call
 call-done c p e = simp e
 
--- (3) a call that is refused changes nothing, and answers with its number
+-- a call that is refused changes nothing, and answers with its number
 pub call-refused : (c : Call) (p : Pool) → refused c p ≢ 0 → call c p ≡ record { answer = refusal (refused c p); pool = p }
 unfolding call
 call-refused c p e = simp (ne-eqb (refused c p) 0 e)
@@ -108,7 +106,7 @@ pub refused-four : (c : Call) (p : Pool) → target c < length (p .trees) → le
 unfolding refused
 refused-four c p h k = simp (lt-leb (length (p .trees)) (target c) h, lt-ltb (length (p .free)) (takes c (treeOf p (target c))) k)
 
--- (4) other trees are untouched
+-- other trees are untouched
 pub other-trees : (c : Call) (p : Pool) (t : ℕ) → t ≢ target c → treeOf ((call c p) .pool) t ≡ treeOf p t
 unfolding call done
 other-trees c p t h = elim (test (eqb (refused c p) 0)) [
@@ -157,14 +155,14 @@ module _ (m : ℕ) (lo : 1 ≤ m) where
       each-once = λ n. done-weight (λ x. once (eqb n x)) c p h f ∙ h .each-once n;
     }
 
-    -- (2) a call keeps the pool well formed
+    -- a call keeps the pool well formed
     pub call-formed : (c : Call) (p : Pool) → WellFormed m p → WellFormed m ((call c p) .pool)
     call-formed c p h = elim (test (eqb (refused c p) 0)) [
       | is e ↦ rw (call-done c p (eqb-true _ _ e)) (done-formed c p h (free-call c p (eqb-true _ _ e)))
       | isnt e ↦ rw (call-refused c p (eqb-false _ _ e)) h
     ]
 
-  -- (1) what a call that is not refused means
+  -- what a call that is not refused means
   pub call-pairs : (c : Call) (p : Pool) → WellFormed m p → refused c p ≡ 0 →
       pairs (treeOf ((call c p) .pool) (target c)) ≡ acts c (pairs (treeOf p (target c)))
   call-pairs c p h e =
@@ -174,7 +172,7 @@ module _ (m : ℕ) (lo : 1 ≤ m) where
       (call c p) .answer ≡ held (lookup (keyOf c) (pairs (treeOf p (target c))))
   call-answer c p h e = rw (call-done c p e) (says-pairs m lo c (treeOf p (target c)) (good-at m (p .trees) (target c) (h .good)))
 
-  -- (3) a value that is held, put again: nothing is taken and nothing changes
+  -- a value that is held, put again: nothing is taken and nothing changes
   need-held : (k v : ℕ) (x : Tree) → getTree k x ≡ some v → need 7 k x ≡ 0
   unfolding need getTree
   need-held k v [] h = absurd (let y : _≡_ {A = ℕ} 0 1 = cc in omega arith)

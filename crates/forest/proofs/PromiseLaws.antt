@@ -1,13 +1,13 @@
 -- PROOFS. The promises: they keep words sound, settle the outcome, and follow from one pool
 use mathlib.Core.Path.{_≡_, refl, sym, ap, _∙_}
 use mathlib.Core.List.{List}
-use Prim.Native.Nat.{ℕ, suc, _+_, _*_, _≤_, _<_}
+use Prim.Native.Nat.{ℕ, suc, _+_, _*_, _≤_}
 use native.Mathlib.Omega.{arith}
 use lib.ListN.{length, getD}
 use Rattle.forest.specs.declared.Answer.{Answer}
 use Rattle.forest.specs.declared.Cursor.{Cursor}
 use Rattle.forest.specs.Answers.{refusal}
-use Rattle.forest.specs.Pools.{Pool, WellFormed, Sound, encode, Call, call, root, treeOf}
+use Rattle.forest.specs.Pools.{Pool, Sound, encode, Call, call}
 use Rattle.forest.specs.Cursors.{Move, move}
 use Rattle.forest.specs.Promises.{Calls, Moves}
 use Rattle.forest.proofs.PoolLaws.{call-formed}

@@ -1,7 +1,7 @@
 -- DEFINITION AND PROOF. The rule of the root in document 01's words - a root that is inner has at least 2 children - is what Tower says level by level
-use mathlib.Core.Path.{_≡_, refl, sym, ap, _∙_}
+use mathlib.Core.Path.{_≡_, sym, ap, _∙_}
 use mathlib.Core.List.{List, [], _∷_}
-use Prim.Native.Nat.{ℕ, suc, _+_, _≤_}
+use Prim.Native.Nat.{_≤_}
 use native.Mathlib.Omega.{arith}
 use lib.ListN.{length}
 use Rattle.forest.specs.Lists.{sum}

@@ -1,15 +1,15 @@
 -- PROOFS. Rows: what the steps do to the joined items, the sizes and the numbers, over any capacity c and minimum lo
-use mathlib.Core.Path.{_≡_, refl, sym, ap, _∙_}
-use mathlib.Core.List.{List, [], _∷_, _++_, append-assoc, append-nil, map}
-use mathlib.Core.Bool.{Bool, true, false, cond, true≢false}
-use Prim.Native.Nat.{ℕ, zero, suc, _+_, _-_, _*_, _≤_, _<_, _/_, min}
+use mathlib.Core.Path.{_≡_, refl, sym, ap}
+use mathlib.Core.List.{List, [], _∷_, _++_, append-assoc, append-nil}
+use mathlib.Core.Bool.{true, false}
+use Prim.Native.Nat.{ℕ, zero, suc, _+_, _-_, _*_, _≤_, _<_, _/_}
 use native.Mathlib.Omega.{arith}
-use lib.ListN.{length, take, drop, getD, set, length-append, length-take, length-drop, take-append-drop, length-map, length-set}
+use lib.ListN.{length, take, drop, getD, set, length-append, length-take, length-drop, take-append-drop, length-set}
 use lib.Dec.{ltb, eqb, leb}
-use borrow.Author.Tests.{lt-ltb, le-ltb, ltb-true, ltb-false, eqb-true, eqb-false, eq-eqb, ne-eqb, le-leb, lt-leb, leb-true, leb-false}
+use borrow.Author.Tests.{lt-ltb, le-ltb, eqb-true, leb-true, leb-false}
 use Rattle.forest.specs.Lists.{insertAt, removeAt, sum}
 use Rattle.forest.specs.Pairs.{Item}
-use Rattle.forest.specs.Rows.{Node, Row, node, size, front, nums, sizes, joined, line, itemsAt, least, Fill, keeps, putNode, alone, share, heal, without, putRow, setRow, dropRow, full, rekey, refresh}
+use Rattle.forest.specs.Rows.{Node, Row, size, front, nums, sizes, joined, line, itemsAt, least, Fill, keeps, putNode, alone, healthy, heal, without, putRow, setRow, dropRow, full, rekey}
 use Rattle.forest.proofs.ListLaws
 
 pub joined-append : (R S : Row) → joined (R ++ S) ≡ joined R ++ joined S
@@ -145,7 +145,7 @@ alone-joined n = elim (ListLaws.test (eqb (size n) 0)) [
 module _ (c : ℕ) where
   pub heal-joined : (n m : Node) → joined (heal c n m) ≡ n .items ++ m .items
   unfolding heal
-  heal-joined n m = elim (ListLaws.test (leb c (2 * size n))) [
+  heal-joined n m = elim (ListLaws.test (healthy c n)) [
     | ListLaws.is e ↦ simp (e, append-nil)
     | ListLaws.isnt e ↦ elim (ListLaws.test (leb (size n + size m) c)) [
       | ListLaws.is f ↦ simp (e, f, append-nil)
@@ -173,7 +173,7 @@ module _ (c : ℕ) where
     | ListLaws.is e ↦ absurd (let z = simp e at h in omega arith)
     | ListLaws.isnt e ↦ simp e
   ]
-  dropRow-kept zero p (n ∷ m ∷ R) h = elim (ListLaws.test (leb c (2 * size (without p n)))) [
+  dropRow-kept zero p (n ∷ m ∷ R) h = elim (ListLaws.test (healthy c (without p n))) [
     | ListLaws.is e ↦ simp e
     | ListLaws.isnt e ↦ elim (ListLaws.test (leb (size (without p n) + size m) c)) [
       | ListLaws.is f ↦ absurd (let z = simp (e, f) at h in omega arith)
@@ -189,7 +189,7 @@ module _ (c : ℕ) where
     | ListLaws.is e ↦ simp e
     | ListLaws.isnt e ↦ absurd (let z = simp e at h in omega arith)
   ]
-  dropRow-lost zero p (n ∷ m ∷ R) h = elim (ListLaws.test (leb c (2 * size (without p n)))) [
+  dropRow-lost zero p (n ∷ m ∷ R) h = elim (ListLaws.test (healthy c (without p n))) [
     | ListLaws.is e ↦ absurd (let z = simp e at h in omega arith)
     | ListLaws.isnt e ↦ elim (ListLaws.test (leb (size (without p n) + size m) c)) [
       | ListLaws.is f ↦ simp (e, f)
@@ -202,7 +202,7 @@ module _ (c : ℕ) where
   unfolding alone heal
   dropRow-length j p [] = omega arith
   dropRow-length zero p (n ∷ []) = elim (ListLaws.test (eqb (size (without p n)) 0)) [ ListLaws.is e ↦ simp e (omega arith) | ListLaws.isnt e ↦ simp e (omega arith) ]
-  dropRow-length zero p (n ∷ m ∷ R) = elim (ListLaws.test (leb c (2 * size (without p n)))) [
+  dropRow-length zero p (n ∷ m ∷ R) = elim (ListLaws.test (healthy c (without p n))) [
     | ListLaws.is e ↦ simp e (omega arith)
     | ListLaws.isnt e ↦ elim (ListLaws.test (leb (size (without p n) + size m) c)) [ ListLaws.is f ↦ simp (e, f) (omega arith) | ListLaws.isnt f ↦ simp (e, f) (omega arith) ]
   ]
@@ -221,7 +221,7 @@ module _ (c : ℕ) where
     unfolding alone heal
     dropRow-least j p [] = omega arith
     dropRow-least zero p (n ∷ []) = elim (ListLaws.test (eqb (size (without p n)) 0)) [ ListLaws.is e ↦ simp e (omega arith) | ListLaws.isnt e ↦ simp e (omega arith) ]
-    dropRow-least zero p (n ∷ m ∷ R) = elim (ListLaws.test (leb c (2 * size (without p n)))) [
+    dropRow-least zero p (n ∷ m ∷ R) = elim (ListLaws.test (healthy c (without p n))) [
       | ListLaws.is e ↦ simp e (omega arith)
       | ListLaws.isnt e ↦ elim (ListLaws.test (leb (size (without p n) + size m) c)) [ ListLaws.is f ↦ simp (e, f) (omega arith) | ListLaws.isnt f ↦ simp (e, f) (omega arith) ]
     ]
@@ -229,7 +229,7 @@ module _ (c : ℕ) where
 
     heal-fill : (n m : Node) (s : ℕ) (xs : List ℕ) → suc (size n) ≡ s → Fill lo c (s ∷ size m ∷ xs) → Fill lo c (sizes (heal c n m) ++ xs)
     unfolding heal
-    heal-fill n m s xs h f = elim (ListLaws.test (leb c (2 * size n))) [
+    heal-fill n m s xs h f = elim (ListLaws.test (healthy c n)) [
       | ListLaws.is e ↦ simp e (omega ListLaws.tests, omega ListLaws.tests, f .2)
       | ListLaws.isnt e ↦ elim (ListLaws.test (leb (size n + size m) c)) [
         | ListLaws.is g ↦ simp (e, g, length-append) (omega (ListLaws.tests, low xs, one xs), omega ListLaws.tests, f .2 .2)

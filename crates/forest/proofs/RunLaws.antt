@@ -1,40 +1,46 @@
 -- PROOFS. Demand 3: each tree of a pool does what it would do alone
 use mathlib.Core.Path.{_≡_, refl, sym, ap, _∙_}
-use mathlib.Core.List.{List, [], _∷_, _++_, map}
-use mathlib.Core.Bool.{Bool, true, false, cond, _&&_, true≢false}
-use mathlib.Core.Logic.{_≢_}
+use mathlib.Core.List.{List, [], _∷_}
+use mathlib.Core.Bool.{true}
 use mathlib.Core.Option.{Option, none, some}
-use Prim.Native.Nat.{ℕ, zero, suc, _+_, _-_, _*_, _≤_, _<_}
+use Prim.Native.Nat.{ℕ, zero, suc, _-_, _≤_}
 use native.Mathlib.Omega.{arith}
-use lib.ListN.{length, take, drop, getD, set, replicate, length-set, length-append}
-use lib.Dec.{ltb, eqb, leb}
-use borrow.Author.Tests.{eqb-true, eqb-false, eq-eqb, ne-eqb}
-use Rattle.forest.specs.Lists.{total}
-use Rattle.forest.specs.Rows.{Tree, Good}
-use Rattle.forest.specs.Trees.{numbers, need, getTree, putTree, removeTree}
-use Rattle.forest.specs.declared.Answer.{Answer}
+use lib.ListN.{length, getD, set, replicate}
+use lib.Dec.{eqb}
+use borrow.Author.Tests.{eqb-true, eqb-false, eq-eqb}
+use Rattle.forest.specs.Rows.{Tree}
+use Rattle.forest.specs.Trees.{numbers, need, getTree}
 use Rattle.forest.specs.Answers.{held}
-use Rattle.forest.specs.Pools.{Pool, used, WellFormed, treeOf, Call, put, remove, get, target, after, takes, frees, says, refused, done, call, fresh, run, answers, counts, own, ownAnswers, shape, AllDone, Alone}
-use Rattle.forest.proofs.ListLaws.{Test, is, isnt, test, tests, cons-eq, total-length}
-use Rattle.forest.proofs.PoolLaws.{Free, free-call, call-free, call-done, call-refused, other-trees, same-trees, same-count, own-tree, done-formed, call-formed, used-set, used-at}
+use Rattle.forest.specs.Pools.{Pool, used, WellFormed, treeOf, Call, put, remove, get, target, after, takes, says, refused, done, call, calls, fresh, run, answers, own, shape, AllDone, Alone}
+use Rattle.forest.proofs.ListLaws.{is, isnt, test, total-length}
+use Rattle.forest.proofs.PoolLaws.{Free, free-call, call-free, call-done, call-refused, other-trees, same-trees, same-count, own-tree, call-formed, used-set, used-at}
 use Rattle.forest.proofs.CountLaws.{nodes-all, fresh-formed}
+use Rattle.forest.specs.Runs.{AllKept}
+use Rattle.forest.proofs.KindLaws.{ByShape, alone}
 use Rattle.forest.proofs.ShapeLaws.{shape-put, shape-need, shape-get, shape-remove, shape-nodes}
 
--- what a call takes, answers and leaves goes by the shape
+-- of a call, answer and new shape are those that the old shape gives
+pub says-by : (c : Call) (x : Tree) → says c x ≡ says c (shape x)
+says-by (put t k v) x = ap held (sym (shape-get k x))
+says-by (remove t k) x = ap held (sym (shape-get k x))
+says-by (get t k) x = ap held (sym (shape-get k x))
+
+pub after-by : (c : Call) (new : List ℕ) (x : Tree) → shape (after c new x) ≡ after c [] (shape x)
+after-by (put t k v) new x = shape-put 7 k v new x
+after-by (remove t k) new x = shape-remove 7 k x
+after-by (get t k) new x = refl
+
+-- so what a call takes, answers and leaves is the same for trees of one shape
 pub takes-shape : (c : Call) (x y : Tree) → shape x ≡ shape y → takes c x ≡ takes c y
 takes-shape (put t k v) x y e = sym (shape-need 7 k x) ∙ ap (need 7 k) e ∙ shape-need 7 k y
 takes-shape (remove t k) x y e = refl
 takes-shape (get t k) x y e = refl
 
 pub says-shape : (c : Call) (x y : Tree) → shape x ≡ shape y → says c x ≡ says c y
-says-shape (put t k v) x y e = ap held (sym (shape-get k x) ∙ ap (getTree k) e ∙ shape-get k y)
-says-shape (remove t k) x y e = ap held (sym (shape-get k x) ∙ ap (getTree k) e ∙ shape-get k y)
-says-shape (get t k) x y e = ap held (sym (shape-get k x) ∙ ap (getTree k) e ∙ shape-get k y)
+says-shape c x y e = says-by c x ∙ ap (says c) e ∙ sym (says-by c y)
 
 pub after-shape : (c : Call) (f g : List ℕ) (x y : Tree) → shape x ≡ shape y → shape (after c f x) ≡ shape (after c g y)
-after-shape (put t k v) f g x y e = shape-put 7 k v f x ∙ ap (putTree 7 k v []) e ∙ sym (shape-put 7 k v g y)
-after-shape (remove t k) f g x y e = shape-remove 7 k x ∙ ap (removeTree 7 k) e ∙ sym (shape-remove 7 k y)
-after-shape (get t k) f g x y e = e
+after-shape c f g x y e = after-by c f x ∙ ap (after c []) e ∙ sym (after-by c g y)
 
 held-done : (o : Option ℕ) → (held o) .number ≡ 0
 held-done none = refl
@@ -58,18 +64,17 @@ run-formed m lo hi [] p h = h
 run-formed m lo hi (c ∷ cs) p h = run-formed m lo hi cs ((call c p) .pool) (call-formed m lo hi c p h)
 
 module _ (m : ℕ) (lo : 1 ≤ m) (hi : m ≤ 4) where
-  -- p is a pool in use, q one in which only tree t was used, and t has the same shape in both
-  record Twin (t : ℕ) (p q : Pool) : Type 0 where
-    joint : WellFormed m p
-    lone : WellFormed m q
-    trees : length (p .trees) ≡ length (q .trees)
-    nodes : p .count ≡ q .count
-    alike : shape (treeOf p t) ≡ shape (treeOf q t)
-    only : length (used (q .trees)) ≡ length (numbers (treeOf q t))
+  -- p is a pool in use, q one of the same size in which only tree t is used
+  pub record Room (t : ℕ) (p q : Pool) : Type 0 where
+    pub joint : WellFormed m p
+    pub lone : WellFormed m q
+    pub trees : length (p .trees) ≡ length (q .trees)
+    pub nodes : p .count ≡ q .count
+    pub only : length (used (q .trees)) ≡ length (numbers (treeOf q t))
 
   -- the pool of one tree has at least as many free nodes
-  more-free : (t : ℕ) (p q : Pool) → Twin t p q → length (p .free) ≤ length (q .free)
-  more-free t p q w = omega (
+  more-free : (t : ℕ) (p q : Pool) → Room t p q → shape (treeOf p t) ≡ shape (treeOf q t) → length (p .free) ≤ length (q .free)
+  more-free t p q w a = omega (
     arith,
     nodes-all m p (w .joint),
     nodes-all m q (w .lone),
@@ -78,13 +83,13 @@ module _ (m : ℕ) (lo : 1 ≤ m) (hi : m ≤ 4) where
     used-at (p .trees) t,
     shape-nodes (treeOf p t),
     shape-nodes (treeOf q t),
-    ap (λ (x : Tree). length (numbers x)) (w .alike),
+    ap (λ (x : Tree). length (numbers x)) a,
   )
 
-  twin-free : (c : Call) (p q : Pool) → Twin (target c) p q → Free c p → Free c q
-  twin-free c p q w f = record {
+  free-too : (c : Call) (p q : Pool) → Room (target c) p q → shape (treeOf p (target c)) ≡ shape (treeOf q (target c)) → Free c p → Free c q
+  free-too c p q w a f = record {
     there = omega (arith, f .there, w .trees);
-    enough = omega (arith, f .enough, more-free (target c) p q w, takes-shape c (treeOf p (target c)) (treeOf q (target c)) (w .alike));
+    enough = omega (arith, f .enough, more-free (target c) p q w a, takes-shape c (treeOf p (target c)) (treeOf q (target c)) a);
   }
 
   only-done : (c : Call) (q : Pool) → Free c q → length (used (q .trees)) ≡ length (numbers (treeOf q (target c))) →
@@ -101,73 +106,54 @@ module _ (m : ℕ) (lo : 1 ≤ m) (hi : m ≤ 4) where
         total-length (numbers (treeOf q (target c))),
       ))
 
-  done-trees : (c : Call) (p : Pool) → length ((done c p) .trees) ≡ length (p .trees)
-  unfolding done
-  done-trees c p = rw length-set
+  not-refused : (c : Call) (p : Pool) → eqb (refused c p) 0 ≡ true → Free c p
+  not-refused c p e = free-call c p (eqb-true _ _ e)
 
-  done-count : (c : Call) (p : Pool) → (done c p) .count ≡ p .count
-  unfolding done
-  done-count c p = refl
-
-  twin-done : (c : Call) (p q : Pool) → Twin (target c) p q → Free c p → Twin (target c) (done c p) (done c q)
-  twin-done c p q w f =
-      let g = twin-free c p q w f in
-      record {
-        joint = done-formed m lo hi c p (w .joint) f;
-        lone = done-formed m lo hi c q (w .lone) g;
-        trees = done-trees c p ∙ w .trees ∙ sym (done-trees c q);
-        nodes = done-count c p ∙ w .nodes ∙ sym (done-count c q);
-        alike = rw (own-tree c p f, own-tree c q g) (after-shape c (p .free) (q .free) (treeOf p (target c)) (treeOf q (target c)) (w .alike));
-        only = only-done c q g (w .only);
-      }
-
-  -- a call of another tree, and one that is refused
-  twin-other : (t : ℕ) (c : Call) (p q : Pool) → Twin t p q → treeOf ((call c p) .pool) t ≡ treeOf p t → Twin t ((call c p) .pool) q
-  twin-other t c p q w e = record {
-    joint = call-formed m lo hi c p (w .joint);
-    lone = w .lone;
-    trees = same-trees c p ∙ w .trees;
-    nodes = same-count c p ∙ w .nodes;
-    alike = ap shape e ∙ w .alike;
-    only = w .only;
+  -- get, put and remove are such a kind of call
+  pub calls-by-shape : ByShape calls (λ p t. shape (treeOf p t)) Room
+  calls-by-shape = record {
+    says = says;
+    makes = λ c s. after c [] s;
+    answer-by = λ c p e. rw (call-done c p (eqb-true _ _ e)) (says-by c (treeOf p (target c)));
+    shape-by = λ c p e. rw (call-done c p (eqb-true _ _ e), own-tree c p (not-refused c p e)) (after-by c (p .free) (treeOf p (target c)));
+    others = λ c p t d. ap shape (other-trees c p t d);
+    struck = λ c p t e. ap (λ (q : Pool). shape (treeOf q t)) (ap (λ d. d .pool) (call-refused c p (eqb-false _ _ e)));
+    keeps = λ c p q w a e. eq-eqb (refused c q) 0 (call-free c q (free-too c p q w a (not-refused c p e)));
+    room-own = λ c p q w a e.
+        let f : Free c q = free-too c p q w a (not-refused c p e) in
+        let z : (call c q) .pool ≡ done c q = ap (λ d. d .pool) (call-done c q (call-free c q f)) in
+        record {
+          joint = call-formed m lo hi c p (w .joint);
+          lone = call-formed m lo hi c q (w .lone);
+          trees = same-trees c p ∙ w .trees ∙ sym (same-trees c q);
+          nodes = same-count c p ∙ w .nodes ∙ sym (same-count c q);
+          only = rw z (only-done c q f (w .only));
+        };
+    room-other = λ c t p q w e. record {
+      joint = call-formed m lo hi c p (w .joint);
+      lone = w .lone;
+      trees = same-trees c p ∙ w .trees;
+      nodes = same-count c p ∙ w .nodes;
+      only = w .only;
+    };
   }
 
-  alone-run : (t : ℕ) (cs : List Call) (p q : Pool) → Twin t p q → Alone t cs p q
-  alone-run t [] p q w = record { same-answers = refl; same-shape = sym (w .alike); all-done = tt }
-  alone-run t (c ∷ cs) p q w = elim (test (eqb (refused c p) 0)) [
-    | is e ↦ elim (test (eqb (target c) t)) [
-      | is f ↦
-          let w′ : Twin (target c) p q = rw (eqb-true (target c) t f) w in
-          let free : Free c p = free-call c p (eqb-true _ _ e) in
-          let r : refused c q ≡ 0 = call-free c q (twin-free c p q w′ free) in
-          let cp = call-done c p (eqb-true _ _ e) in
-          let cq = call-done c q r in
-          let next : Twin t (done c p) (done c q) = rw (eqb-true (target c) t f) at (twin-done c p q w′ free) in
-          let ih = alone-run t cs (done c p) (done c q) next in
-          record {
-            same-answers = simp (e, f, cp, cq) (cons-eq (says-shape c (treeOf q (target c)) (treeOf p (target c)) (sym (w′ .alike))) (ih .same-answers));
-            same-shape = simp (e, f, cp, cq) (ih .same-shape);
-            all-done = simp (e, f, cp, cq) (says-done c (treeOf q (target c)), ih .all-done);
-          }
-      | isnt f ↦
-          let ih = alone-run t cs ((call c p) .pool) q (twin-other t c p q w (other-trees c p t (λ z. eqb-false _ _ f (sym z)))) in
-          record { same-answers = simp (e, f) (ih .same-answers); same-shape = simp (e, f) (ih .same-shape); all-done = simp (e, f) (ih .all-done) }
-    ]
-    | isnt e ↦
-        let cp = call-refused c p (eqb-false _ _ e) in
-        let ih = alone-run t cs ((call c p) .pool) q (twin-other t c p q w (rw cp)) in
-        elim (test (eqb (target c) t)) [
-          | is f ↦ record { same-answers = simp (e, f) (ih .same-answers); same-shape = simp (e, f) (ih .same-shape); all-done = simp (e, f) (ih .all-done) }
-          | isnt f ↦ record { same-answers = simp (e, f) (ih .same-answers); same-shape = simp (e, f) (ih .same-shape); all-done = simp (e, f) (ih .all-done) }
-        ]
-  ]
+  kept-done : (cs : List Call) (p : Pool) → AllKept calls cs p → AllDone (answers cs p)
+  kept-done [] p a = tt
+  kept-done (c ∷ cs) p a = (answer-number c p ∙ eqb-true _ _ (a .0), kept-done cs ((call c p) .pool) (a .1))
+
+  -- from any two such pools
+  pub alone-calls : (t : ℕ) (cs : List Call) (p q : Pool) → Room t p q → shape (treeOf p t) ≡ shape (treeOf q t) → Alone t cs p q
+  alone-calls t cs p q w a =
+      let s = alone calls (λ p t. shape (treeOf p t)) Room calls-by-shape t cs p q w a in
+      record { same-answers = s .same-replies; all-done = kept-done (own t cs p) q (s .all-kept); same-shape = s .same-shape }
 
   -- any calls from a fresh pool, the refused ones struck out: tree t, with its own calls alone in a fresh pool, gives the same answers, none a refusal,
   -- and comes to the same shape
   pub demand-3 : (T N : ℕ) → 1 ≤ T → T ≤ 32 → N ≤ 512 → (t : ℕ) (cs : List Call) → Alone t cs (fresh T N) (fresh T N)
   demand-3 T N a b c t cs =
       let g = fresh-formed m T N a b c in
-      alone-run t cs (fresh T N) (fresh T N) (record { joint = g; lone = g; trees = refl; nodes = refl; alike = refl; only = none-used T t })
+      alone-calls t cs (fresh T N) (fresh T N) (record { joint = g; lone = g; trees = refl; nodes = refl; only = none-used T t }) refl
     where
       none-used : (T t : ℕ) → length (used (replicate T [])) ≡ length (numbers (getD (replicate T []) t []))
       none-used zero t = refl

@@ -1,18 +1,16 @@
 -- PROOFS. Numbers decide nothing: put, remove and get commute with erasing them
 use mathlib.Core.Path.{_≡_, refl, sym, ap, _∙_}
-use mathlib.Core.List.{List, [], _∷_, _++_, append-assoc, append-nil, map}
-use mathlib.Core.Bool.{Bool, true, false, cond, true≢false}
-use mathlib.Core.Option.{Option, none, some}
-use Prim.Native.Nat.{ℕ, zero, suc, _+_, _-_, _*_, _≤_, _<_, _/_, min}
+use mathlib.Core.List.{List, [], _∷_, _++_, map}
+use Prim.Native.Nat.{ℕ, zero, suc, _+_, _-_}
 use native.Mathlib.Omega.{arith}
-use lib.ListN.{length, take, drop, getD, set, length-map, length-drop, length-append}
+use lib.ListN.{length, drop, getD, length-map, length-append}
 use lib.Dec.{ltb, eqb, leb}
-use Rattle.forest.specs.Lists.{insertAt, removeAt, sum, total, upto, parent, offset}
-use Rattle.forest.specs.Pairs.{Item, lookup, has, place}
-use Rattle.forest.specs.Rows.{Node, Row, Tree, node, size, front, nums, sizes, fronts, joined, line, itemsAt, keeps, putNode, alone, share, heal, without, putRow, setRow, dropRow, full, rekey, refresh}
-use Rattle.forest.specs.Trees.{pairs, numbers, leafOf, leafItems, seat, growUp, needUp, putLeaf, putTree, need, dropAt, lost, dropUp, freedUp, trim, fromTop, trimmed, stand, dropLeaf, dropAbove, removeTree, freed, getTree}
+use Rattle.forest.specs.Lists.{parent, offset}
+use Rattle.forest.specs.Pairs.{Item, has, place}
+use Rattle.forest.specs.Rows.{Node, Row, Tree, node, size, front, nums, sizes, fronts, joined, line, itemsAt, putNode, alone, healthy, heal, without, putRow, setRow, dropRow, full, rekey, refresh}
+use Rattle.forest.specs.Trees.{pairs, numbers, leafOf, leafItems, seat, growUp, needUp, putLeaf, putTree, need, dropAt, lost, dropUp, trim, stand, dropLeaf, dropAbove, removeTree, getTree}
 use Rattle.forest.specs.Pools.{blank, shape}
-use Rattle.forest.proofs.ListLaws.{Test, is, isnt, test, tests, cons-eq, map-append, map-take, map-drop, map-insertAt, map-removeAt, map-set}
+use Rattle.forest.proofs.ListLaws.{is, isnt, test, cons-eq, map-append, map-take, map-drop, map-insertAt, map-removeAt, map-set}
 
 -- an item with its second part changed
 abbrev by : (ℕ → ℕ) → Item → Item
@@ -92,7 +90,7 @@ module _ (g : ℕ → ℕ) where
   blank-heal : (c : ℕ) (n m : Node) → heal c (blank g n) (blank g m) ≡ row g (heal c n m)
   unfolding heal
   blank-heal c n m =
-      rw (length-map (n .items) (by g), length-map (m .items) (by g)) (elim (test (leb c (2 * size n))) [
+      rw (length-map (n .items) (by g), length-map (m .items) (by g)) (elim (test (healthy c n)) [
         | is e ↦ simp e
         | isnt e ↦ elim (test (leb (size n + size m) c)) [
           | is f ↦ simp (e, f, map-append)
@@ -184,7 +182,7 @@ shape-stand : (L : Row) (Rs : List Row) → stand (leaf L) (rows Rs) ≡ shape (
 shape-stand [] Rs = refl
 shape-stand (n ∷ L) Rs = ap (leaf (n ∷ L) ∷_) (ap (refresh (leaf (n ∷ L))) (rows-trim (λ v. v) (n ∷ L) Rs) ∙ rows-refresh (λ v. v) (n ∷ L) (trim (n ∷ L) Rs))
 
--- (5) the shape afterwards, the need and what is held go by the shape before
+-- the shape afterwards, the need and what is held go by the shape before
 pub shape-put : (c k v : ℕ) (new : List ℕ) (t : Tree) → shape (putTree c k v new t) ≡ putTree c k v [] (shape t)
 unfolding putTree
 shape-put c k v new [] = refl
@@ -226,3 +224,64 @@ shape-nodes (L ∷ Rs) = step (λ v. v) L (rows Rs) Rs (go Rs)
     go : (Rs : List Row) → length (numbers (rows Rs)) ≡ length (numbers Rs)
     go [] = refl
     go (S ∷ Ss) = step (λ v. 0) S (rows Ss) Ss (go Ss)
+
+-- What a shape settles: the levels, the pairs, the entries of each leaf, and the keys of each node
+
+pub shape-levels : (t : Tree) → length (shape t) ≡ length t
+shape-levels [] = refl
+shape-levels (L ∷ Rs) = ap suc (length-map Rs inner)
+
+-- of each node the keys, the first one too, which no word stores
+abbrev pub rowKeys : Row → List (List ℕ)
+rowKeys R = map (λ n. map (λ (x : Item). x .0) (n .items)) R
+
+-- of each leaf the entries
+abbrev pub leafEntries : Tree → List (List Item)
+leafEntries [] = []
+leafEntries (L ∷ Rs) = map (λ n. n .items) L
+
+by-keys : (g : ℕ → ℕ) (xs : List Item) → map (λ (x : Item). x .0) (map (by g) xs) ≡ map (λ (x : Item). x .0) xs
+by-keys g [] = refl
+by-keys g (x ∷ xs) = ap (x .0 ∷_) (by-keys g xs)
+
+row-keys : (g : ℕ → ℕ) (R : Row) → rowKeys (row g R) ≡ rowKeys R
+row-keys g [] = refl
+row-keys g (n ∷ R) = cons-eq (by-keys g (n .items)) (row-keys g R)
+
+rows-keys : (Rs : List Row) → map rowKeys (rows Rs) ≡ map rowKeys Rs
+rows-keys [] = refl
+rows-keys (S ∷ Ss) = cons-eq (row-keys (λ v. 0) S) (rows-keys Ss)
+
+pub shape-keys : (t : Tree) → map rowKeys (shape t) ≡ map rowKeys t
+shape-keys [] = refl
+shape-keys (L ∷ Rs) = cons-eq (row-keys (λ v. v) L) (rows-keys Rs)
+
+pub shape-entries : (t : Tree) → leafEntries (shape t) ≡ leafEntries t
+shape-entries [] = refl
+shape-entries (L ∷ Rs) = go L
+  where
+    go : (L : Row) → map (λ n. n .items) (leaf L) ≡ map (λ n. n .items) L
+    go [] = refl
+    go (n ∷ L) = cons-eq (by-same (n .items)) (go L)
+
+pub shape-pairs : (t : Tree) → pairs (shape t) ≡ pairs t
+shape-pairs [] = refl
+shape-pairs (L ∷ Rs) = go L
+  where
+    go : (L : Row) → joined (leaf L) ≡ joined L
+    go [] = refl
+    go (n ∷ L) = rw (by-same (n .items), go L)
+
+pub record OneContent (x y : Tree) : Type 0 where
+  pub levels : length x ≡ length y
+  pub same-pairs : pairs x ≡ pairs y
+  pub entries : leafEntries x ≡ leafEntries y
+  pub keys : map rowKeys x ≡ map rowKeys y
+
+pub shape-settles : (x y : Tree) → shape x ≡ shape y → OneContent x y
+shape-settles x y e = record {
+  levels = sym (shape-levels x) ∙ ap length e ∙ shape-levels y;
+  same-pairs = sym (shape-pairs x) ∙ ap pairs e ∙ shape-pairs y;
+  entries = sym (shape-entries x) ∙ ap leafEntries e ∙ shape-entries y;
+  keys = sym (shape-keys x) ∙ ap (map rowKeys) e ∙ shape-keys y;
+}

@@ -1,18 +1,18 @@
 -- PROOFS. A cursor and its path: a clean cursor is the cursor of its path, and `stands` computes `Stands`
 use mathlib.Core.Path.{_≡_, refl, sym, ap, _∙_}
-use mathlib.Core.List.{List, [], _∷_, _++_, map}
-use mathlib.Core.Bool.{Bool, true, false, cond, _&&_, true≢false}
-use Prim.Native.Nat.{ℕ, zero, suc, _+_, _-_, _≤_, _<_}
+use mathlib.Core.List.{List, [], _∷_, map}
+use mathlib.Core.Bool.{true, true≢false}
+use Prim.Native.Nat.{ℕ, zero, suc, _+_, _-_, _≤_}
 use native.Mathlib.Omega.{arith}
-use lib.ListN.{length, take, drop, getD}
-use lib.Dec.{ltb, leb, eqb}
-use borrow.Author.Tests.{le-leb, leb-true, eqb-true, eq-eqb}
+use lib.ListN.{length, drop, getD}
+use lib.Dec.{leb, eqb}
+use borrow.Author.Tests.{le-leb, leb-true, eqb-true}
 use Rattle.forest.specs.Sizes.{mostLevels}
 use Rattle.forest.specs.Lists.{pad, parent, offset}
 use Rattle.forest.specs.Rows.{Row, Tree, Good, nums, sizes}
 use Rattle.forest.specs.declared.Cursor.{Cursor}
 use Rattle.forest.specs.Cursors.{Spot, off, on, leaves, Fits, Path, pathUp, pathOf, cursorAt, Stands, spotOf, runs, levelsOf, pathIn, allZero, clean, stands}
-use Rattle.forest.proofs.ListLaws.{Test, is, isnt, test, cons-eq}
+use Rattle.forest.proofs.ListLaws.{is, isnt, test, cons-eq}
 use Rattle.forest.proofs.CursorLaws.{runs-yes, runs-fits, runs-path}
 
 abbrev nodesOf : Path → List ℕ
@@ -89,7 +89,7 @@ cursor-back c ln lp h = elim (test (leb (c .size) mostLevels)) [
 ]
 
 -- a path has a level for each row, or none
-length-pathUp : (i : ℕ) (Rs : List Row) (below : Path) → length (pathUp i Rs below) ≡ length Rs + length below
+pub length-pathUp : (i : ℕ) (Rs : List Row) (below : Path) → length (pathUp i Rs below) ≡ length Rs + length below
 length-pathUp i [] below = omega arith
 length-pathUp i (S ∷ Ss) below = omega (arith, length-pathUp (parent (sizes S) i) Ss ((getD (nums S) (parent (sizes S) i) 0, offset (sizes S) i) ∷ below))
 
@@ -98,7 +98,7 @@ length-path t off = omega arith
 length-path [] (on j e) = omega arith
 length-path (L ∷ Rs) (on j e) = omega (arith, length-pathUp j Rs ((getD (nums L) j 0, e) ∷ []))
 
-stands-parts : (t : Tree) (c : Cursor) → stands t c ≡ true → (clean c ≡ true) × (runs t (pathIn c) ≡ true)
+pub stands-parts : (t : Tree) (c : Cursor) → stands t c ≡ true → (clean c ≡ true) × (runs t (pathIn c) ≡ true)
 stands-parts t c h = elim (test (clean c)) [ is a ↦ (a, simp a at h) | isnt a ↦ absurd (true≢false (sym (simp a at h))) ]
 
 pub stands-fits : (t : Tree) (c : Cursor) → stands t c ≡ true → Fits (leaves t) (spotOf t (pathIn c))

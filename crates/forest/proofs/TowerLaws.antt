@@ -1,17 +1,17 @@
 -- PROOFS. The rows above the leaves: they stay stacked and filled, and no number is lost or doubled
 use mathlib.Core.Path.{_≡_, refl, sym, ap, _∙_}
-use mathlib.Core.List.{List, [], _∷_, _++_, append-assoc, append-nil, map}
-use mathlib.Core.Bool.{Bool, true, false, cond, true≢false}
-use Prim.Native.Nat.{ℕ, zero, suc, _+_, _-_, _*_, _≤_, _<_, _/_, min}
+use mathlib.Core.List.{List, [], _∷_}
+use mathlib.Core.Bool.{true, false}
+use Prim.Native.Nat.{ℕ, suc, _+_, _-_, _≤_, _<_}
 use native.Mathlib.Omega.{arith}
 use lib.ListN.{length, take, drop, getD, length-drop, length-map}
-use lib.Dec.{ltb, eqb, leb}
-use borrow.Author.Tests.{lt-ltb, le-ltb, ltb-true, ltb-false, eqb-true, eqb-false, leb-true, leb-false}
-use Rattle.forest.specs.Lists.{insertAt, removeAt, sum, total, parent, offset}
+use lib.Dec.{ltb}
+use borrow.Author.Tests.{le-ltb, ltb-true, ltb-false}
+use Rattle.forest.specs.Lists.{removeAt, sum, total, parent, offset}
 use Rattle.forest.specs.Pairs.{Item}
-use Rattle.forest.specs.Rows.{Node, Row, Tree, node, size, nums, sizes, joined, line, Fill, Tower, putRow, dropRow, full, rekey, refresh}
+use Rattle.forest.specs.Rows.{Row, size, nums, sizes, joined, line, Fill, Tower, putRow, full, rekey, refresh}
 use Rattle.forest.specs.Trees.{numbers, seat, growUp, needUp, dropAt, lost, dropUp, freedUp, trim, fromTop, trimmed}
-use Rattle.forest.proofs.ListLaws.{Test, is, isnt, test, tests, length-insertAt, length-removeAt, parent-lt, offset-lt, parent-start, total-append, total-insertAt, total-removeAt, total-head, drop-one}
+use Rattle.forest.proofs.ListLaws.{is, isnt, test, tests, length-insertAt, length-removeAt, parent-lt, offset-lt, parent-start, total-append, total-insertAt, total-removeAt, total-head, drop-one}
 use Rattle.forest.proofs.RowLaws.{sum-sizes, length-line, putRow-joined, putRow-room, putRow-full, putRow-fill, dropRow-joined, dropRow-kept, dropRow-lost, dropRow-length, dropRow-fill, rekey-nums, rekey-sizes, rekey-joined, rekey-length}
 
 -- the counts of the rows above n nodes

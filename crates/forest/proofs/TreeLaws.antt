@@ -1,21 +1,21 @@
 -- PROOFS. One tree: its pairs, that it stays well formed, and its numbers
 use mathlib.Core.Path.{_≡_, refl, sym, ap, _∙_}
-use mathlib.Core.List.{List, [], _∷_, _++_, append-assoc, append-nil, map}
-use mathlib.Core.Bool.{Bool, true, false, cond, true≢false}
+use mathlib.Core.List.{List, [], _∷_, _++_, append-nil}
+use mathlib.Core.Bool.{true, false, cond}
 use mathlib.Core.Option.{Option, none, some}
-use Prim.Native.Nat.{ℕ, zero, suc, _+_, _-_, _*_, _≤_, _<_, _/_, min}
+use Prim.Native.Nat.{ℕ, zero, suc, _+_, _-_, _*_, _≤_, _<_}
 use native.Mathlib.Omega.{arith}
 use lib.ListN.{length, take, drop, getD, set, length-map, length-drop}
-use lib.Dec.{ltb, eqb, leb}
-use borrow.Author.Tests.{lt-ltb, le-ltb, ltb-true, ltb-false, eqb-true, eqb-false, leb-true, leb-false}
-use Rattle.forest.specs.Lists.{insertAt, removeAt, sum, total, upto}
+use lib.Dec.{leb}
+use borrow.Author.Tests.{ltb-true, ltb-false, leb-true, leb-false}
+use Rattle.forest.specs.Lists.{sum, total}
 use Rattle.forest.specs.Pairs.{Item, Above, Rising, insert, delete, lookup, has, place}
-use Rattle.forest.specs.Rows.{Node, Row, Tree, node, size, front, nums, sizes, fronts, joined, line, itemsAt, least, Fill, Tower, Good, putRow, setRow, dropRow, full, rekey, refresh}
-use Rattle.forest.specs.Trees.{pairs, numbers, leafOf, leafItems, growUp, needUp, putLeaf, putTree, need, lost, dropUp, freedUp, trim, trimmed, stand, dropLeaf, dropAbove, removeTree, freed, getTree}
-use Rattle.forest.proofs.ListLaws.{Test, is, isnt, test, tests, upto-length, length-removeAt, total-append, total-insertAt, total-removeAt, total-head, total-length, drop-one}
+use Rattle.forest.specs.Rows.{Node, Row, Tree, node, size, front, nums, sizes, joined, line, itemsAt, Fill, Good, putRow, setRow, dropRow, full}
+use Rattle.forest.specs.Trees.{pairs, numbers, leafOf, leafItems, growUp, needUp, putLeaf, putTree, need, lost, freedUp, trim, trimmed, stand, dropLeaf, dropAbove, removeTree, freed, getTree}
+use Rattle.forest.proofs.ListLaws.{is, isnt, test, tests, total-append, total-insertAt, total-removeAt, total-head, total-length, drop-one}
 use Rattle.forest.proofs.PairLaws.{Below, above-trans, below-le, rising-left, rising-right, rising-seam, has-left, has-right, lookup-left, lookup-right, place-left, place-right, place-le, place-lt, place-insert, place-set, place-delete, place-key, delete-none, set-same, lookup-has, rising-insert, rising-delete}
-use Rattle.forest.proofs.RowLaws.{length-items, sum-sizes, length-line, putRow-joined, putRow-room, putRow-full, putRow-fill, setRow-joined, setRow-sizes, setRow-nums, setRow-line, setRow-length, dropRow-joined, dropRow-kept, dropRow-lost, dropRow-length, dropRow-fill}
-use Rattle.forest.proofs.TowerLaws.{Levels, Stack, tower-some, tower-levels, tower-line, refresh-tower, putRow-length-room, putRow-length-full, grow-levels, levels-stack, drop-levels, trim-levels, refresh-numbers, weight, grow-weight, drop-weight, trim-weight, levels-trimmed}
+use Rattle.forest.proofs.RowLaws.{length-items, putRow-joined, putRow-room, putRow-full, putRow-fill, setRow-joined, setRow-sizes, setRow-nums, setRow-line, dropRow-joined, dropRow-kept, dropRow-lost, dropRow-length, dropRow-fill}
+use Rattle.forest.proofs.TowerLaws.{Levels, Stack, tower-some, tower-levels, tower-line, refresh-tower, putRow-length-room, putRow-length-full, grow-levels, levels-stack, drop-levels, trim-levels, refresh-numbers, weight, grow-weight, drop-weight, trim-weight}
 
 -- Where a key is: what holds in its leaf holds in the whole row
 abbrev pub NoneEmpty : Row → Type 0
@@ -122,7 +122,7 @@ stand-pairs [] Rs = refl
 stand-pairs (n ∷ L) Rs = refl
 
 module _ (m c k : ℕ) (lo : 1 ≤ m) where
-  -- (1) the pairs
+  -- the pairs
   pub pairs-put : (v : ℕ) (new : List ℕ) (t : Tree) → Good m c t → pairs (putTree c k v new t) ≡ insert k v (pairs t)
   unfolding putTree putLeaf
   pairs-put v new [] g = refl
@@ -148,7 +148,7 @@ module _ (m c k : ℕ) (lo : 1 ≤ m) where
   pairs-get [] g = refl
   pairs-get (L ∷ Rs) g = sym ((lands m c k L Rs lo g) .lookups)
 
-  -- (2) the tree stays well formed
+  -- the tree stays well formed
   module _ (two : 2 ≤ c) (hi : 2 * m ≤ suc c) where
     pub good-put : (v : ℕ) (new : List ℕ) (t : Tree) → Good m c t → Good m c (putTree c k v new t)
     unfolding putTree putLeaf
@@ -302,7 +302,7 @@ module _ (m c k : ℕ) (lo : 1 ≤ m) where
     total-length (freed c k t),
   )
 
-  -- (3) a value that is held, put again
+  -- a value that is held, put again
   pub put-same : (v : ℕ) (new : List ℕ) (t : Tree) → Good m c t → getTree k t ≡ some v → putTree c k v new t ≡ t
   unfolding putTree getTree
   put-same v new [] g h = absurd (let y : _≡_ {A = ℕ} 0 1 = cc in omega arith)

@@ -6,15 +6,14 @@ use Prim.Native.Nat.{ℕ, zero, suc, _+_}
 use lib.ListN.{length, getD, drop, replicate}
 use lib.Dec.{eqb}
 use borrow.Author.Tests.{eqb-true}
-use Rattle.forest.proofs.ListLaws.{Test, is, isnt, test, cons-eq}
-use Rattle.forest.specs.Lists.{once, pad}
+use Rattle.forest.specs.Lists.{once}
 use Rattle.forest.specs.Pairs.{Item}
-use Rattle.forest.specs.Rows.{Node, Row, Tree, keeps, putNode, alone, heal}
+use Rattle.forest.specs.Rows.{Row, Tree, keeps, putNode, alone, heal}
 use Rattle.forest.specs.Trees.{putTree, need, removeTree, freed, getTree, putLeaf, dropLeaf, dropAbove}
 use Rattle.forest.specs.declared.Answer.{Answer}
 use Rattle.forest.specs.declared.Cursor.{Cursor}
-use Rattle.forest.specs.Pools.{Pool, Done, Call, put, remove, get, call, refused, done, encode, fresh, root, run, answers, formatted}
-use Rattle.forest.specs.Cursors.{Move, Moved, pathIn, cursorAt, clean, to-first, to-key, to-next, to-prev, to-settled, to-remove, move, moveFrom, blocked, leaves}
+use Rattle.forest.specs.Pools.{Pool, Call, put, remove, get, call, refused, done, encode, fresh, root, run, answers, formatted}
+use Rattle.forest.specs.Cursors.{Moved, pathIn, cursorAt, clean, to-key, to-next, to-prev, to-remove, move, moveFrom, blocked, leaves}
 
 -- what is seen, and what the document says, as lists of numbers
 pub record Trial : Type 0 where
@@ -49,15 +48,15 @@ tree p = getD (p .trees) 0 []
 abbrev view : Pool → List (List ℕ)
 view p = leafKeys (leaves (tree p)) ++ (separators (above (tree p)) ++ (reverse (p .free) ∷ []))
 
-abbrev answer : Answer → List ℕ
+abbrev pub answer : Answer → List ℕ
 answer a = a .number ∷ once (a .found) ∷ a .key ∷ a .value ∷ []
 
 -- nodes and places, root first
-abbrev flat : List (ℕ × ℕ) → List ℕ
+abbrev pub flat : List (ℕ × ℕ) → List ℕ
 flat [] = []
 flat (p ∷ ps) = p .0 ∷ p .1 ∷ flat ps
 
-abbrev path : Cursor → List ℕ
+abbrev pub path : Cursor → List ℕ
 path c = flat (pathIn c)
 
 -- tree A in N nodes; B
@@ -78,42 +77,40 @@ abbrev seenMoved : Moved → List (List ℕ)
 seenMoved m = view (m .pool) ++ (answer (m .answer) ∷ path (m .cursor) ∷ [])
 
 -- the same, as a test: it computes well
-abbrev sameList : List ℕ → List ℕ → Bool
+abbrev pub sameList : List ℕ → List ℕ → Bool
 sameList [] [] = true
 sameList [] (y ∷ ys) = false
 sameList (x ∷ xs) [] = false
 sameList (x ∷ xs) (y ∷ ys) = cond (eqb x y) (sameList xs ys) false
 
-abbrev sameLists : List (List ℕ) → List (List ℕ) → Bool
+abbrev pub sameLists : List (List ℕ) → List (List ℕ) → Bool
 sameLists [] [] = true
 sameLists [] (y ∷ ys) = false
 sameLists (x ∷ xs) [] = false
 sameLists (x ∷ xs) (y ∷ ys) = cond (sameList x y) (sameLists xs ys) false
 
-abbrev agree : Trial → Bool
+abbrev pub agree : Trial → Bool
 agree t = sameLists (t .seen) (t .said)
 
 -- what agrees is the same
+both : {A : Type 0} (b : Bool) (x y : A) (xs ys : List A) (rest : Bool) → (b ≡ true → x ≡ y) → (rest ≡ true → xs ≡ ys) → cond b rest false ≡ true → x ∷ xs ≡ y ∷ ys
+both true x y xs ys rest f g e = let p = f refl in let q = g e in λ i. p i ∷ q i
+both false x y xs ys rest f g e = absurd (true≢false (sym e))
+
 list-same : (xs ys : List ℕ) → sameList xs ys ≡ true → xs ≡ ys
 list-same [] [] e = refl
 list-same [] (y ∷ ys) e = absurd (true≢false (sym e))
 list-same (x ∷ xs) [] e = absurd (true≢false (sym e))
-list-same (x ∷ xs) (y ∷ ys) e = elim (test (eqb x y)) [
-  | is f ↦ cons-eq (eqb-true x y f) (list-same xs ys (simp f at e))
-  | isnt f ↦ absurd (true≢false (sym (simp f at e)))
-]
+list-same (x ∷ xs) (y ∷ ys) e = both (eqb x y) x y xs ys (sameList xs ys) (eqb-true x y) (list-same xs ys) e
 
 lists-same : (xs ys : List (List ℕ)) → sameLists xs ys ≡ true → xs ≡ ys
 lists-same [] [] e = refl
 lists-same [] (y ∷ ys) e = absurd (true≢false (sym e))
 lists-same (x ∷ xs) [] e = absurd (true≢false (sym e))
-lists-same (x ∷ xs) (y ∷ ys) e = elim (test (sameList x y)) [
-  | is f ↦ cons-eq (list-same x y f) (lists-same xs ys (simp f at e))
-  | isnt f ↦ absurd (true≢false (sym (simp f at e)))
-]
+lists-same (x ∷ xs) (y ∷ ys) e = both (sameList x y) x y xs ys (sameLists xs ys) (list-same x y) (lists-same xs ys) e
 
 -- the definitions that the trials compute with
-unfoldable steps : Unit {0}
+unfoldable pub steps : Unit {0}
 unfolding call refused done putTree need removeTree freed getTree putLeaf dropLeaf dropAbove keeps putNode alone heal encode formatted move moveFrom blocked clean
 steps = tt
 
@@ -307,13 +304,42 @@ odd-share-agrees : agree odd-share ≡ true
 unfolding steps odd-share
 odd-share-agrees = refl
 
+-- keys k, .., k + n - 1 put in order
+abbrev putAll : ℕ → ℕ → List Call
+putAll k zero = []
+putAll k (suc n) = put 0 k k ∷ putAll (suc k) n
+
+-- 1 to 36 put in 12 nodes, 13 removed at a cursor: freed are 5, 3, 12 in that order, leaf, parent, root; the root is 11
+pub three-freed : Trial
+three-freed = record {
+  seen =
+      freed 7 13 (tree (run (putAll 1 36) (fresh 1 12))) ∷ (root (tree ((removed 13 (run (putAll 1 36) (fresh 1 12))) .pool)) ∷ []) ∷
+      path ((removed 13 (run (putAll 1 36) (fresh 1 12))) .cursor) ∷ separators (above (tree ((removed 13 (run (putAll 1 36) (fresh 1 12))) .pool)));
+  said = (5 ∷ 3 ∷ 12 ∷ []) ∷ (11 ∷ []) ∷ (11 ∷ 3 ∷ 6 ∷ 0 ∷ []) ∷ (5 ∷ 9 ∷ 14 ∷ 21 ∷ 25 ∷ 29 ∷ 33 ∷ []) ∷ [];
+}
+
+three-freed-agrees : agree three-freed ≡ true
+unfolding steps three-freed
+three-freed-agrees = refl
+
+-- B with 36 put, 36 removed at a cursor: the last of its leaf, so the cursor is on 40, the first of the next
+pub next-leaf : Trial
+next-leaf = record {
+  seen = path ((removed 36 (run (put 0 36 8 ∷ []) (B 3))) .cursor) ∷ answer ((move to-prev ((removed 36 (run (put 0 36 8 ∷ []) (B 3))) .cursor) (B 3)) .answer) ∷ [];
+  said = (3 ∷ 1 ∷ 2 ∷ 0 ∷ []) ∷ (0 ∷ 1 ∷ 35 ∷ 9 ∷ []) ∷ [];
+}
+
+next-leaf-agrees : agree next-leaf ≡ true
+unfolding steps next-leaf
+next-leaf-agrees = refl
+
 -- the claim
 abbrev pub trials : List Trial
 trials = fresh-pool ∷ one-put ∷ p1 ∷ p2 ∷ p3 ∷ p4 ∷ p5 ∷ p6 ∷ p7 ∷ p8 ∷ p9 ∷ p10 ∷
-    no-nodes ∷ last-tree ∷ end-keys ∷ formats ∷ after-seek ∷ replayed ∷ odd-share ∷ []
+    no-nodes ∷ last-tree ∷ end-keys ∷ formats ∷ after-seek ∷ replayed ∷ odd-share ∷ three-freed ∷ next-leaf ∷ []
 
-holds : (t : Trial) → agree t ≡ true → t .seen ≡ t .said
+pub holds : (t : Trial) → agree t ≡ true → t .seen ≡ t .said
 holds t e = lists-same (t .seen) (t .said) e
 
 pub trials-hold : AllHold trials
-trials-hold = (holds fresh-pool fresh-pool-agrees, (holds one-put one-put-agrees, (holds p1 p1-agrees, (holds p2 p2-agrees, (holds p3 p3-agrees, (holds p4 p4-agrees, (holds p5 p5-agrees, (holds p6 p6-agrees, (holds p7 p7-agrees, (holds p8 p8-agrees, (holds p9 p9-agrees, (holds p10 p10-agrees, (holds no-nodes no-nodes-agrees, (holds last-tree last-tree-agrees, (holds end-keys end-keys-agrees, (holds formats formats-agrees, (holds after-seek after-seek-agrees, (holds replayed replayed-agrees, (holds odd-share odd-share-agrees, tt)))))))))))))))))))
+trials-hold = (holds fresh-pool fresh-pool-agrees, (holds one-put one-put-agrees, (holds p1 p1-agrees, (holds p2 p2-agrees, (holds p3 p3-agrees, (holds p4 p4-agrees, (holds p5 p5-agrees, (holds p6 p6-agrees, (holds p7 p7-agrees, (holds p8 p8-agrees, (holds p9 p9-agrees, (holds p10 p10-agrees, (holds no-nodes no-nodes-agrees, (holds last-tree last-tree-agrees, (holds end-keys end-keys-agrees, (holds formats formats-agrees, (holds after-seek after-seek-agrees, (holds replayed replayed-agrees, (holds odd-share odd-share-agrees, (holds three-freed three-freed-agrees, (holds next-leaf next-leaf-agrees, tt)))))))))))))))))))))

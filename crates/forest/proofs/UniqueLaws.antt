@@ -1,24 +1,23 @@
 -- PROOFS. Words determine the pool: two well formed pools with the same words are the same
 use mathlib.Core.Path.{_≡_, refl, sym, ap, _∙_}
-use mathlib.Core.List.{List, [], _∷_, _++_, map, reverse, reverseAux, reverse-reverse, append-assoc}
-use mathlib.Core.Bool.{Bool, true, false, cond, _&&_}
-use mathlib.Core.Logic.{_≢_}
+use mathlib.Core.List.{List, [], _∷_, _++_, map, reverse, reverseAux, reverse-reverse}
 use Prim.Native.Nat.{ℕ, zero, suc, _+_, _-_, _*_, _≤_, _<_}
 use native.Mathlib.Omega.{arith}
-use lib.ListN.{length, take, drop, getD, set, length-append, length-map, length-reverse}
+use lib.ListN.{length, take, drop, getD, length-map, length-reverse}
 use lib.Seq.{take-at, drop-at, ext-getD}
-use lib.Dec.{ltb, eqb, leb}
-use borrow.Author.Tests.{leb-true, leb-false, lt-leb}
-use Rattle.forest.specs.Lists.{once, count, pad}
+use lib.Dec.{leb}
+use borrow.Author.Tests.{leb-true}
+use Rattle.forest.specs.Lists.{count, pad}
 use Rattle.forest.specs.Pairs.{Item}
-use Rattle.forest.specs.Rows.{Node, Row, Tree, node, size, nums, sizes, joined, line, front, itemsAt, least, Fill, Tower, Good}
+use Rattle.forest.specs.Rows.{Row, Tree, node, size, nums, sizes, joined, line, itemsAt, Fill, Tower, Good}
 use Rattle.forest.specs.Trees.{numbers}
-use Rattle.forest.specs.Pools.{Pool, used, WellFormed, treeOf, leafWords, innerWords, nodeWords, nodesFrom, rootAbove, root, encode, Sound}
-use Rattle.forest.proofs.ListLaws.{Test, is, isnt, test, tests, cons-eq, map-append}
+use Rattle.forest.specs.Pools.{Pool, used, WellFormed, treeOf, leafWords, innerWords, nodeWords, rootAbove, root, encode, Sound}
+use Rattle.forest.proofs.ListLaws.{is, isnt, test, cons-eq, map-append}
 use Rattle.forest.proofs.TowerLaws.{tower-some}
 use Rattle.forest.proofs.PoolLaws.{good-at}
 use Rattle.forest.proofs.CountLaws.{nodes-all, length-pad}
-use Rattle.forest.proofs.WordLaws.{count-append, count-at, count-row, count-tree, rowAt, used-once, leaf-words, inner-words, first-word, root-word, node-window, free-part, count-word}
+use Rattle.forest.proofs.Sentences.{names-node}
+use Rattle.forest.proofs.WordLaws.{count-append, count-at, count-row, count-tree, rowAt, leaf-words, inner-words, first-word, root-word, node-window, free-part, count-word}
 
 -- Words of a node
 module _ {A : Type 0} where
@@ -191,14 +190,10 @@ module _ (f : ℕ → List ℕ) where
       sym (reverse-reverse (L ∷ Rs)) ∙ ap reverse (sym (turned L Rs []) ∙ s ∙ turned L′ Rs′ []) ∙ reverse-reverse (L′ ∷ Rs′)
 
 -- Pools
-inside : (m : ℕ) (p : Pool) → WellFormed m p → (n : ℕ) → 1 ≤ count n (used (p .trees)) → (1 ≤ n) × (n ≤ p .count)
-inside m p w n h = elim (test (leb 1 n)) [
-  | is a ↦ elim (test (leb n (p .count))) [
-    | is b ↦ (leb-true _ _ a, leb-true _ _ b)
-    | isnt b ↦ absurd (let z = simp (a, b) at (w .each-once n) in omega arith)
-  ]
-  | isnt a ↦ absurd (let z = simp a at (w .each-once n) in omega arith)
-]
+
+-- a number in use is that of a node
+pub inside : (m : ℕ) (p : Pool) → WellFormed m p → (n : ℕ) → 1 ≤ count n (used (p .trees)) → (1 ≤ n) × (n ≤ p .count)
+inside m p w n h = names-node m p n w (omega arith)
 
 leaf-used : (p : Pool) (t : ℕ) (L : Row) (Rs : List Row) (j : ℕ) → treeOf p t ≡ L ∷ Rs → j < length L → 1 ≤ count (getD (nums L) j 0) (used (p .trees))
 leaf-used p t L Rs j e h =
@@ -210,7 +205,8 @@ inner-used p t L Rs h j e k =
     let n = getD (nums (rowAt Rs h)) j 0 in
     omega (arith, count-at (rowAt Rs h) j k, count-row n Rs h, count-append n (nums L) (numbers Rs), ap (λ (x : Tree). count n (numbers x)) e, count-tree n (p .trees) t)
 
-root-used : (p : Pool) (t : ℕ) (L : Row) (Rs : List Row) → treeOf p t ≡ L ∷ Rs → Tower L Rs → 1 ≤ count (rootAbove L Rs) (used (p .trees))
+-- the root of a tree is in use
+pub root-used : (p : Pool) (t : ℕ) (L : Row) (Rs : List Row) → treeOf p t ≡ L ∷ Rs → Tower L Rs → 1 ≤ count (rootAbove L Rs) (used (p .trees))
 root-used p t L Rs e w = omega (arith, go L Rs w, ap (λ (x : Tree). count (rootAbove L Rs) (numbers x)) e, count-tree (rootAbove L Rs) (p .trees) t)
   where
     go : (R : Row) (Ss : List Row) → Tower R Ss → 1 ≤ count (rootAbove R Ss) (numbers (R ∷ Ss))

@@ -1,20 +1,20 @@
 -- PROOFS. Where what stands in the words of a well formed pool
 use mathlib.Core.Path.{_≡_, refl, sym, ap, _∙_}
 use mathlib.Core.List.{List, [], _∷_, _++_, map, reverse, append-assoc}
-use mathlib.Core.Bool.{Bool, true, false, cond, _&&_}
+use mathlib.Core.Bool.{Bool, true, false, _&&_}
 use Prim.Native.Nat.{ℕ, zero, suc, _+_, _-_, _*_, _≤_, _<_}
 use native.Mathlib.Omega.{arith}
-use lib.ListN.{length, take, drop, getD, set, length-append, length-map, length-reverse, List·getD-append, List·getD-map, drop-of-length-le}
-use lib.Seq.{take-append-seam, drop-append-seam, take-append-le, drop-append-le, drop-append-add, getD-append-add, take-at, drop-at, drop-drop}
-use lib.Dec.{ltb, eqb, leb}
-use borrow.Author.Tests.{eqb-true, eqb-false, eq-eqb, ne-eqb}
-use Rattle.forest.specs.Lists.{once, total, count, pad}
+use lib.ListN.{length, take, drop, getD, set, length-map, List·getD-append, List·getD-map}
+use lib.Seq.{drop-append-add, getD-append-add, take-at, drop-at}
+use lib.Dec.{eqb, leb}
+use borrow.Author.Tests.{eq-eqb}
+use Rattle.forest.specs.Lists.{once, count, pad}
 use Rattle.forest.specs.Pairs.{Item}
-use Rattle.forest.specs.Rows.{Node, Row, Tree, nums, itemsAt}
+use Rattle.forest.specs.Rows.{Row, Tree, nums, itemsAt}
 use Rattle.forest.specs.Trees.{numbers}
 use Rattle.forest.specs.Pools.{Pool, used, WellFormed, treeOf, leafWords, innerWords, inRow, inRows, inTree, inTrees, nodeWords, nodesFrom, root, encode}
-use Rattle.forest.proofs.ListLaws.{Test, is, isnt, test, tests, total-append}
-use Rattle.forest.proofs.CountLaws.{node-length, nodes-length, length-pad}
+use Rattle.forest.proofs.ListLaws.{is, isnt, test, total-append}
+use Rattle.forest.proofs.CountLaws.{node-length, nodes-length}
 
 pub count-append : (n : ℕ) (xs ys : List ℕ) → count n (xs ++ ys) ≡ count n xs + count n ys
 count-append n xs ys = total-append (λ x. once (eqb n x)) xs ys
@@ -105,7 +105,8 @@ count-tree n [] t = omega arith
 count-tree n (u ∷ us) zero = omega (arith, count-append n (numbers u) (used us))
 count-tree n (u ∷ us) (suc t) = omega (arith, count-append n (numbers u) (used us), count-tree n us t)
 
-small : (b : Bool) → once b ≤ 1
+-- a test as a number is at most 1
+pub small : (b : Bool) → once b ≤ 1
 small true = omega arith
 small false = omega arith
 

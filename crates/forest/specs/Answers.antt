@@ -1,5 +1,5 @@
 -- DEFINITIONS. Answers: the one numbering, of what a call finds and of what it is refused for
-use mathlib.Core.Bool.{Bool, true, false}
+use mathlib.Core.Bool.{true, false}
 use mathlib.Core.Option.{Option, none, some}
 use Prim.Native.Nat.{ℕ}
 use Rattle.forest.specs.Pairs.{Item}

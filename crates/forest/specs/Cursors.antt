@@ -1,6 +1,6 @@
 -- DEFINITIONS. Cursors: where one stands in a tree, its path, how it moves, and the calls
 use mathlib.Core.Path.{_≡_}
-use mathlib.Core.List.{List, [], _∷_, _++_, map, reverse}
+use mathlib.Core.List.{List, [], _∷_, map, reverse}
 use mathlib.Core.Bool.{Bool, true, false, cond, _&&_}
 use mathlib.Core.Option.{Option, none, some}
 use Prim.Native.Nat.{ℕ, zero, suc, _+_, _-_, _≤_, _<_}
@@ -9,12 +9,12 @@ use lib.Dec.{ltb, leb, eqb}
 use Rattle.forest.specs.Sizes.{mostLevels}
 use Rattle.forest.specs.Lists.{sum, parent, offset, pad}
 use Rattle.forest.specs.Pairs.{Item, place}
-use Rattle.forest.specs.Rows.{Row, Tree, size, sizes, nums, itemsAt, joined}
-use Rattle.forest.specs.Trees.{leafOf, leafItems, pairs, getTree}
+use Rattle.forest.specs.Rows.{Row, Tree, size, sizes, nums, itemsAt}
+use Rattle.forest.specs.Trees.{leafOf, leafItems, getTree}
 use Rattle.forest.specs.declared.Answer.{Answer}
 use Rattle.forest.specs.declared.Cursor.{Cursor}
 use Rattle.forest.specs.Answers.{nothing, refusal, held, told, valued}
-use Rattle.forest.specs.Pools.{Pool, Call, remove, call, treeOf}
+use Rattle.forest.specs.Pools.{Pool, remove, call, treeOf, gate}
 
 -- at entry e of the j-th leaf (e may be one past the last), or off the end
 pub data Spot : Type 0 where
@@ -26,6 +26,7 @@ abbrev pub leaves : Tree → Row
 leaves [] = []
 leaves (L ∷ Rs) = L
 
+-- the entries of the j-th leaf
 abbrev pub sizeAt : Row → ℕ → ℕ
 sizeAt L j = getD (sizes L) j 0
 
@@ -49,21 +50,25 @@ leafStart L j = cond (ltb j (length L)) (on j 0) off
 abbrev pub leafEnd : Row → ℕ → Spot
 leafEnd L j = on j (sizeAt L j - 1)
 
+-- the least pair
 abbrev pub first : Row → Spot
 first L = leafStart L 0
 
+-- the leaf of key k, and its place there or its insert place, which may be one past the last entry
 abbrev pub seek : ℕ → Row → Spot
 seek k L = cond (ltb 0 (length L)) (on (leafOf k L) (place k (leafItems k L))) off
 
+-- from one past a leaf's last entry to the first pair of the next leaf; otherwise unmoved
 abbrev pub settle : Row → Spot → Spot
 settle L off = off
 settle L (on j e) = cond (ltb e (sizeAt L j)) (on j e) (leafStart L (suc j))
 
+-- from a pair the pair after it; from one past a leaf's last entry the first pair of the next leaf
 abbrev pub next : Row → Spot → Spot
 next L off = off
 next L (on j e) = cond (ltb (suc e) (sizeAt L j)) (on j (suc e)) (leafStart L (suc j))
 
--- at the first pair of all it stays
+-- the pair before the place; off the end the last pair of all; at the first pair it stays
 abbrev pub prev : Row → Spot → Spot
 prev L off = cond (ltb 0 (length L)) (leafEnd L (length L - 1)) off
 prev L (on zero zero) = on 0 0
@@ -86,8 +91,9 @@ position L (on j e) = sum (take j (sizes L)) + e
 abbrev pub spotAt : Row → ℕ → Spot
 spotAt L i = cond (ltb i (sum (sizes L))) (on (parent (sizes L) i) (offset (sizes L) i)) off
 
--- Paths: node and place of each level, root first
+-- Paths
 
+-- node and place of each level, root first
 abbrev pub Path : Type 0
 Path = List (ℕ × ℕ)
 
@@ -96,6 +102,7 @@ abbrev pub pathUp : ℕ → List Row → Path → Path
 pathUp i [] below = below
 pathUp i (S ∷ Ss) below = pathUp (parent (sizes S) i) Ss ((getD (nums S) (parent (sizes S) i) 0, offset (sizes S) i) ∷ below)
 
+-- the path to a spot, empty off the end
 abbrev pub pathOf : Tree → Spot → Path
 pathOf t off = []
 pathOf [] (on j e) = []
@@ -124,20 +131,24 @@ indexUnder [] ps = 0
 indexUnder (S ∷ Ss) [] = 0
 indexUnder (S ∷ Ss) (p ∷ ps) = sum (take (indexUnder Ss ps) (sizes S)) + p .1
 
+-- the spot that a path names, under the rows Rs; the path leaf first
 abbrev pub spotUp : List Row → Path → Spot
 spotUp Rs [] = off
 spotUp Rs (p ∷ ps) = on (indexUnder Rs ps) (p .1)
 
+-- the spot that a path names in a tree; the path root first
 abbrev pub spotOf : Tree → Path → Spot
 spotOf [] path = off
 spotOf (L ∷ Rs) path = spotUp Rs (reverse path)
 
+-- are two paths the same
 abbrev pub samePath : Path → Path → Bool
 samePath [] [] = true
 samePath [] (q ∷ qs) = false
 samePath (p ∷ ps) [] = false
 samePath (p ∷ ps) (q ∷ qs) = eqb (p .0) (q .0) && (eqb (p .1) (q .1) && samePath ps qs)
 
+-- is it a spot that a cursor can stand at
 abbrev pub fits : Row → Spot → Bool
 fits L off = true
 fits L (on j e) = ltb j (length L) && leb e (sizeAt L j)
@@ -155,6 +166,7 @@ levelsOf (suc s) ns ps = (getD ns 0 0, getD ps 0 0) ∷ levelsOf s (drop 1 ns) (
 abbrev pub pathIn : Cursor → Path
 pathIn c = levelsOf (c .size) (c .nodes) (c .places)
 
+-- are all of them 0
 abbrev pub allZero : List ℕ → Bool
 allZero [] = true
 allZero (x ∷ xs) = eqb x 0 && allZero xs
@@ -163,6 +175,7 @@ allZero (x ∷ xs) = eqb x 0 && allZero xs
 unfoldable pub clean : Cursor → Bool
 clean c = leb (c .size) mostLevels && (allZero (drop (c .size) (c .nodes)) && allZero (drop (c .size) (c .places)))
 
+-- does a cursor stand in a tree
 abbrev pub stands : Tree → Cursor → Bool
 stands t c = clean c && runs t (pathIn c)
 
@@ -195,11 +208,12 @@ reads to-prev = true
 reads to-settled = true
 reads to-remove = true
 
--- the pool afterwards: only remove changes it, by the key of the pair that the cursor is on
+-- a remove at a cursor is the remove by key of the pair that it is on
 abbrev pub removed : ℕ → Option Item → Pool → Pool
 removed t none p = p
 removed t (some x) p = (call (remove t (x .0)) p) .pool
 
+-- the pool after a move from spot s of tree t
 abbrev pub leftPool : Move → ℕ → Spot → Pool → Pool
 leftPool to-first t s p = p
 leftPool (to-key k) t s p = p
@@ -208,11 +222,12 @@ leftPool to-prev t s p = p
 leftPool to-settled t s p = p
 leftPool to-remove t s p = removed t (pairAt (leaves (treeOf p t)) s) p
 
--- and the spot: after a remove that of the next pair, which has the place of the one removed
+-- after a remove, the spot of the next pair, which has the place of the one removed
 abbrev pub removedSpot : Option Item → Row → Row → Spot → Spot
 removedSpot none L L′ s = s
 removedSpot (some x) L L′ s = spotAt L′ (position L s)
 
+-- where a move from spot s leaves the cursor; L and L′ are the leaves before and afterwards
 abbrev pub leftSpot : Move → Row → Row → Spot → Spot
 leftSpot to-first L L′ s = first L
 leftSpot (to-key k) L L′ s = seek k L
@@ -221,16 +236,15 @@ leftSpot to-prev L L′ s = prev L s
 leftSpot to-settled L L′ s = settle L s
 leftSpot to-remove L L′ s = removedSpot (pairAt L s) L L′ s
 
+-- what comes of a move
 pub record Moved : Type 0 where
   pub answer : Answer
   pub cursor : Cursor
   pub pool : Pool
 
--- the number of a refusal, 0 if there is none
+-- the number of a refusal, 0 if there is none: 3 where the cursor is read and does not stand in its tree
 unfoldable pub blocked : Move → Cursor → Pool → ℕ
-blocked v c p =
-    cond (leb (length (p .trees)) (c .tree)) 2
-    (cond (reads v) (cond (stands (treeOf p (c .tree)) c) 0 3) 0)
+blocked v c p = gate p (c .tree) (cond (reads v) (cond (stands (treeOf p (c .tree)) c) 0 3) 0)
 
 -- a move that is not refused, done from a spot
 unfoldable pub moveFrom : Move → ℕ → Spot → Pool → Moved
@@ -240,6 +254,7 @@ moveFrom v t s p = record {
   pool = leftPool v t s p;
 }
 
+-- a move: where it is refused, neither pool nor cursor changes
 unfoldable pub move : Move → Cursor → Pool → Moved
 move v c p =
     cond (eqb (blocked v c p) 0)

@@ -4,6 +4,7 @@ pub mod Pairs
 pub mod Answers
 pub mod Rows
 pub mod Trees
+pub mod Runs
 pub mod Pools
 pub mod Cursors
 pub mod Promises

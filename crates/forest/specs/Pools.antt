@@ -1,10 +1,9 @@
 -- DEFINITIONS. A pool of trees, when it is well formed, its words, and the calls
 use mathlib.Core.Path.{_≡_}
 use mathlib.Core.List.{List, [], _∷_, _++_, map, reverse}
-use mathlib.Core.Bool.{Bool, true, false, cond, _&&_}
-use mathlib.Core.Option.{Option, none, some}
-use Prim.Native.Nat.{ℕ, zero, suc, _+_, _-_, _*_, _≤_, _<_}
-use lib.ListN.{length, take, drop, getD, set, replicate}
+use mathlib.Core.Bool.{Bool, cond, _&&_}
+use Prim.Native.Nat.{ℕ, zero, suc, _+_, _-_, _*_, _≤_}
+use lib.ListN.{length, drop, getD, set, replicate}
 use lib.Dec.{ltb, leb, eqb}
 use Rattle.forest.specs.Sizes.{mostTrees, mostNodes, leafCap, leafTag, innerTag, nodeSize, keyWords, linkWords}
 use Rattle.forest.specs.Lists.{once, count, pad}
@@ -12,7 +11,8 @@ use Rattle.forest.specs.Pairs.{Item, insert, delete}
 use Rattle.forest.specs.Rows.{Node, Row, Tree, node, nums, Good}
 use Rattle.forest.specs.declared.Answer.{Answer}
 use Rattle.forest.specs.Answers.{refusal, held}
-use Rattle.forest.specs.Trees.{pairs, numbers, putTree, need, removeTree, freed, getTree}
+use Rattle.forest.specs.Runs.{Kind, finally, replies, ownCalls, ownReplies}
+use Rattle.forest.specs.Trees.{numbers, putTree, need, removeTree, freed, getTree}
 
 -- T trees, N nodes, the free numbers with the top of the stack first
 pub record Pool : Type 0 where
@@ -25,11 +25,12 @@ abbrev pub used : List Tree → List ℕ
 used [] = []
 used (t ∷ ts) = numbers t ++ used ts
 
+-- every tree is well formed
 abbrev pub AllGood : ℕ → List Tree → Type 0
 AllGood m [] = Unit {0}
 AllGood m (t ∷ ts) = Good m leafCap t × AllGood m ts
 
--- m is the minimum of a leaf: 3 in document 01
+-- a pool is well formed, with m the minimum of a leaf: 3 in document 01
 pub record WellFormed (m : ℕ) (p : Pool) : Type 0 where
   pub some-trees : 1 ≤ length (p .trees)
   pub few-trees : length (p .trees) ≤ mostTrees
@@ -40,10 +41,11 @@ pub record WellFormed (m : ℕ) (p : Pool) : Type 0 where
 
 -- The words
 
+-- a leaf: 32 and its entries, then keys, then values, zeros in places not in use
 abbrev pub leafWords : List Item → List ℕ
 leafWords xs = (leafTag + length xs) ∷ (pad keyWords (map (λ (x : Item). x .0) xs) ++ pad linkWords (map (λ (x : Item). x .1) xs))
 
--- the key of the first item is not stored
+-- an inner node: 16 and its keys, then keys, then children; the key of the first item is not stored
 abbrev pub innerWords : List Item → List ℕ
 innerWords xs = (innerTag + (length xs - 1)) ∷ (pad keyWords (map (λ (x : Item). x .0) (drop 1 xs)) ++ pad linkWords (map (λ (x : Item). x .1) xs))
 
@@ -52,14 +54,17 @@ abbrev pub inRow : (List Item → List ℕ) → ℕ → Row → List ℕ → Lis
 inRow words n [] or = or
 inRow words n (m ∷ R) or = cond (eqb n (m .num)) (words (m .items)) (inRow words n R or)
 
+-- and if it is in one of the rows above the leaves
 abbrev pub inRows : ℕ → List Row → List ℕ → List ℕ
 inRows n [] or = or
 inRows n (R ∷ Rs) or = inRow innerWords n R (inRows n Rs or)
 
+-- and in a tree
 abbrev pub inTree : ℕ → Tree → List ℕ → List ℕ
 inTree n [] or = or
 inTree n (L ∷ Rs) or = inRow leafWords n L (inRows n Rs or)
 
+-- and in one of the trees
 abbrev pub inTrees : ℕ → List Tree → List ℕ → List ℕ
 inTrees n [] or = or
 inTrees n (t ∷ ts) or = inTree n t (inTrees n ts or)
@@ -78,10 +83,12 @@ abbrev pub rootAbove : Row → List Row → ℕ
 rootAbove R [] = getD (nums R) 0 0
 rootAbove R (S ∷ Ss) = rootAbove S Ss
 
+-- the root word of a tree
 abbrev pub root : Tree → ℕ
 root [] = 0
 root (L ∷ Rs) = rootAbove L Rs
 
+-- the words of a pool: T, the roots, N, the nodes, F, the stack with its top last and zeros behind
 unfoldable pub encode : Pool → List ℕ
 encode p =
     length (p .trees) ∷ (map root (p .trees) ++
@@ -101,13 +108,16 @@ abbrev pub fresh-stack : ℕ → ℕ → List ℕ
 fresh-stack n zero = []
 fresh-stack n (suc c) = n ∷ fresh-stack (suc n) c
 
+-- the pool after formatting: empty trees, every node free
 abbrev pub fresh : ℕ → ℕ → Pool
 fresh T N = record { trees = replicate T []; count = N; free = fresh-stack 1 N }
 
+-- what comes of a call: its answer, and the pool afterwards
 pub record Done : Type 0 where
   pub answer : Answer
   pub pool : Pool
 
+-- tree t, empty where there is none
 abbrev pub treeOf : Pool → ℕ → Tree
 treeOf p t = getD (p .trees) t []
 
@@ -126,6 +136,7 @@ pub data Call : Type 0 where
   remove : ℕ → ℕ → Call
   get : ℕ → ℕ → Call
 
+-- the tree that a call is for
 abbrev pub target : Call → ℕ
 target (put t k v) = t
 target (remove t k) = t
@@ -137,27 +148,31 @@ after (put t k v) new x = putTree leafCap k v new x
 after (remove t k) new x = removeTree leafCap k x
 after (get t k) new x = x
 
--- what it takes, what it frees, and what it answers
+-- how many nodes it takes
 abbrev pub takes : Call → Tree → ℕ
 takes (put t k v) x = need leafCap k x
 takes (remove t k) x = 0
 takes (get t k) x = 0
 
+-- the numbers it frees, in order
 abbrev pub frees : Call → Tree → List ℕ
 frees (put t k v) x = []
 frees (remove t k) x = freed leafCap k x
 frees (get t k) x = []
 
+-- what it answers: a put the earlier value, a remove and a get the value held
 abbrev pub says : Call → Tree → Answer
 says (put t k v) x = held (getTree k x)
 says (remove t k) x = held (getTree k x)
 says (get t k) x = held (getTree k x)
 
--- the number of a refusal, 0 if there is none
+-- the first refusals of every call on a sound pool: 2 where the tree number is T or above; then comes what the call itself is refused for
+abbrev pub gate : Pool → ℕ → ℕ → ℕ
+gate p t rest = cond (leb (length (p .trees)) t) 2 rest
+
+-- the number of a refusal, 0 if there is none: 4 where the call takes more nodes than are free
 unfoldable pub refused : Call → Pool → ℕ
-refused c p =
-    cond (leb (length (p .trees)) (target c)) 2
-    (cond (ltb (length (p .free)) (takes c (treeOf p (target c)))) 4 0)
+refused c p = gate p (target c) (cond (ltb (length (p .free)) (takes c (treeOf p (target c)))) 4 0)
 
 -- a call that is not refused, done
 unfoldable pub done : Call → Pool → Pool
@@ -165,6 +180,7 @@ done c p =
     withTree p (target c) (after c (p .free) (treeOf p (target c)))
     (pushAll (frees c (treeOf p (target c))) (drop (takes c (treeOf p (target c))) (p .free)))
 
+-- a call: where it is refused, nothing changes
 unfoldable pub call : Call → Pool → Done
 call c p =
     cond (eqb (refused c p) 0)
@@ -175,46 +191,45 @@ call c p =
 unfoldable pub formatted : ℕ → ℕ → ℕ → ℕ
 formatted T N len = cond (leb 1 T && (leb T mostTrees && (leb N mostNodes && eqb len (T + 17 * N + 3)))) 0 5
 
--- the words after formatting, and the answer: a refusal by 0 is nothing found
+-- the words after formatting
 unfoldable pub formatWords : ℕ → ℕ → List ℕ → List ℕ
 formatWords T N ws = cond (eqb (formatted T N (length ws)) 0) (encode (fresh T N)) ws
 
+-- and the answer: number 0 with nothing found, or 5
 unfoldable pub formatAnswer : ℕ → ℕ → List ℕ → Answer
 formatAnswer T N ws = refusal (formatted T N (length ws))
 
 -- Calls in a row
 
+-- get, put and remove as a kind of call; every refusal is struck out
+abbrev pub calls : Kind Call Pool Answer
+calls = record { answer = λ c p. (call c p) .answer; next = λ c p. (call c p) .pool; target = target; kept = λ c p. eqb (refused c p) 0 }
+
 -- the pool after some calls
 abbrev pub run : List Call → Pool → Pool
-run [] p = p
-run (c ∷ cs) p = run cs ((call c p) .pool)
+run cs p = finally calls cs p
 
 -- and their answers
 abbrev pub answers : List Call → Pool → List Answer
-answers [] p = []
-answers (c ∷ cs) p = (call c p) .answer ∷ answers cs ((call c p) .pool)
-
--- is c a call of tree t that is not refused
-abbrev pub counts : ℕ → Call → Pool → Bool
-counts t c p = eqb (target c) t && eqb (refused c p) 0
+answers cs p = replies calls cs p
 
 -- the calls of tree t, those that are refused struck out
 abbrev pub own : ℕ → List Call → Pool → List Call
-own t [] p = []
-own t (c ∷ cs) p = cond (counts t c p) (c ∷ own t cs ((call c p) .pool)) (own t cs ((call c p) .pool))
+own t cs p = ownCalls calls t cs p
 
 -- and the answers to these
 abbrev pub ownAnswers : ℕ → List Call → Pool → List Answer
-ownAnswers t [] p = []
-ownAnswers t (c ∷ cs) p = cond (counts t c p) ((call c p) .answer ∷ ownAnswers t cs ((call c p) .pool)) (ownAnswers t cs ((call c p) .pool))
+ownAnswers t cs p = ownReplies calls t cs p
 
 -- The meaning of a call on the list of pairs
 
+-- what becomes of the pairs
 abbrev pub acts : Call → List Item → List Item
 acts (put t k v) xs = insert k v xs
 acts (remove t k) xs = delete k xs
 acts (get t k) xs = xs
 
+-- the key of a call
 abbrev pub keyOf : Call → ℕ
 keyOf (put t k v) = k
 keyOf (remove t k) = k

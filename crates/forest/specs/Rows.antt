@@ -1,27 +1,32 @@
 -- DEFINITIONS. A level of a tree is a row of nodes, left to right; a tree is its rows, leaves first. The steps on nodes and rows, over the capacity c
 use mathlib.Core.Path.{_≡_}
 use mathlib.Core.List.{List, [], _∷_, _++_, map}
-use mathlib.Core.Bool.{Bool, true, false, cond}
-use Prim.Native.Nat.{ℕ, zero, suc, _+_, _-_, _*_, _/_, _≤_, _<_}
+use mathlib.Core.Bool.{Bool, cond}
+use Prim.Native.Nat.{ℕ, zero, suc, _+_, _-_, _*_, _/_, _≤_}
 use lib.ListN.{length, take, drop, getD, set}
 use lib.Dec.{ltb, leb, eqb}
 use Rattle.forest.specs.Sizes.{innerCap, innerLeast}
-use Rattle.forest.specs.Lists.{insertAt, removeAt, sum}
+use Rattle.forest.specs.Lists.{insertAt, removeAt}
 use Rattle.forest.specs.Pairs.{Item, Rising}
 
+-- a node: its number, and its items in order
 pub record Node : Type 0 where
   pub num : ℕ
   pub items : List Item
 
+-- the nodes of one level, left to right
 abbrev pub Row : Type 0
 Row = List Node
 
+-- the levels of a tree, leaves first; an empty tree has none
 abbrev pub Tree : Type 0
 Tree = List Row
 
+-- a node by its parts
 abbrev pub node : ℕ → List Item → Node
 node n xs = record { num = n; items = xs }
 
+-- how many items a node has: entries in a leaf, children in an inner node
 abbrev pub size : Node → ℕ
 size n = length (n .items)
 
@@ -30,12 +35,15 @@ abbrev pub front : List Item → ℕ
 front [] = 0
 front (x ∷ xs) = x .0
 
+-- the numbers of the nodes
 abbrev pub nums : Row → List ℕ
 nums R = map (λ n. n .num) R
 
+-- how many items each has
 abbrev pub sizes : Row → List ℕ
 sizes R = map size R
 
+-- the first key of each
 abbrev pub fronts : Row → List ℕ
 fronts R = map (λ n. front (n .items)) R
 
@@ -96,13 +104,18 @@ alone n = cond (eqb (size n) 0) [] (n ∷ [])
 abbrev pub share : ℕ → ℕ → List Item → Row
 share a b u = node a (take (length u - length u / 2) u) ∷ node b (drop (length u - length u / 2) u) ∷ []
 
+-- a node that has lost an item is healthy at half of the capacity: 4 of 7 entries, 4 of 8 children
+abbrev pub healthy : ℕ → Node → Bool
+healthy c n = leb c (2 * size n)
+
 -- a node and its right neighbour: a healthy one stays; else everything goes to the right if it fits, or they share
 unfoldable pub heal : ℕ → Node → Node → Row
 heal c n m =
-    cond (leb c (2 * size n)) (n ∷ m ∷ [])
+    cond (healthy c n) (n ∷ m ∷ [])
     (cond (leb (size n + size m) c) (node (m .num) (n .items ++ m .items) ∷ [])
     (share (n .num) (m .num) (n .items ++ m .items)))
 
+-- a node that has lost item p
 abbrev pub without : ℕ → Node → Node
 without p n = node (n .num) (removeAt p (n .items))
 

@@ -1,14 +1,14 @@
 -- DEFINITIONS. put, remove and get on one tree
 use mathlib.Core.List.{List, [], _∷_, _++_}
-use mathlib.Core.Bool.{Bool, true, false, cond}
-use mathlib.Core.Option.{Option, none, some}
-use Prim.Native.Nat.{ℕ, zero, suc, _+_, _-_}
+use mathlib.Core.Bool.{Bool, cond}
+use mathlib.Core.Option.{Option, none}
+use Prim.Native.Nat.{ℕ, suc, _+_}
 use lib.ListN.{length, drop, getD}
 use lib.Dec.{ltb}
 use Rattle.forest.specs.Sizes.{innerCap}
 use Rattle.forest.specs.Lists.{parent, offset, upto}
 use Rattle.forest.specs.Pairs.{Item, lookup, has, place}
-use Rattle.forest.specs.Rows.{Node, Row, Tree, node, nums, sizes, fronts, itemsAt, joined, putRow, setRow, dropRow, full, refresh}
+use Rattle.forest.specs.Rows.{Row, Tree, node, nums, sizes, fronts, itemsAt, joined, putRow, setRow, dropRow, full, refresh}
 
 -- the pairs of a tree
 abbrev pub pairs : Tree → List Item
@@ -24,6 +24,7 @@ numbers (R ∷ Rs) = nums R ++ numbers Rs
 abbrev pub leafOf : ℕ → Row → ℕ
 leafOf k L = upto k (drop 1 (fronts L))
 
+-- its entries
 abbrev pub leafItems : ℕ → Row → List Item
 leafItems k L = itemsAt L (leafOf k L)
 
@@ -51,6 +52,7 @@ needUp i (S ∷ Ss) = cond (full innerCap (parent (sizes S) i) S) (suc (needUp (
 unfoldable pub putLeaf : ℕ → ℕ → ℕ → List ℕ → Row → Row
 putLeaf c k v new L = putRow c (leafOf k L) (place k (leafItems k L)) (k, v) (getD new 0 0) L
 
+-- put: an entry replaced; or put in, the rows above grown where the leaf was full, and brought up to date; the first entry of all makes a leaf
 unfoldable pub putTree : ℕ → ℕ → ℕ → List ℕ → Tree → Tree
 putTree c k v new [] = (node (getD new 0 0) ((k, v) ∷ []) ∷ []) ∷ []
 putTree c k v new (L ∷ Rs) =
@@ -109,6 +111,7 @@ dropLeaf c k L = dropRow c (leafOf k L) (place k (leafItems k L)) L
 unfoldable pub dropAbove : ℕ → ℕ → Row → List Row → List Row
 dropAbove c k L Rs = cond (lost (dropLeaf c k L) L) (dropUp (leafOf k L) Rs) Rs
 
+-- remove: an absent key changes nothing
 unfoldable pub removeTree : ℕ → ℕ → Tree → Tree
 removeTree c k [] = []
 removeTree c k (L ∷ Rs) = cond (has k (leafItems k L)) (stand (dropLeaf c k L) (dropAbove c k L Rs)) (L ∷ Rs)
@@ -121,6 +124,7 @@ freed c k (L ∷ Rs) =
     (cond (lost (dropLeaf c k L) L) (getD (nums L) (leafOf k L) 0 ∷ freedUp (leafOf k L) Rs) [] ++ trimmed (dropLeaf c k L) (dropAbove c k L Rs))
     []
 
+-- get: the value held, in the leaf of the key
 unfoldable pub getTree : ℕ → Tree → Option ℕ
 getTree k [] = none
 getTree k (L ∷ Rs) = lookup k (leafItems k L)
