@@ -1,6 +1,7 @@
 pub mod Sizes
 pub mod Lists
 pub mod Pairs
+pub mod Slices
 pub mod Answers
 pub mod Rows
 pub mod Trees

@@ -1,6 +1,9 @@
 // What every crate of the port shares: the sizes of document 01, a call's answer, and the cursor.
 ghost use mathlib.Core.Path.{_≡_};
+ghost use Prim.Native.Nat.{_≤_, _<_};
+ghost use lib.ListN.{length};
 ghost use Rattle.forest.specs.Answers.{answerOf, numberOf};
+ghost use Rattle.forest.specs.Slices.{inserted, shifted, KeysRise, searched};
 
 // Children of an inner node at most.
 pub const INNER_SIZE: usize = 8;
@@ -100,5 +103,55 @@ pub fn numbered(reply: Reply) -> Answer
             key: 0,
             value: 0,
         },
+    }
+}
+
+// What a search finds: the key's place, or the place where it would stand.
+pub enum Found {
+    Here(usize),
+    Absent(usize),
+}
+
+// Search for `k` in an ordered slice.
+pub fn search(k: u32, s: &[u32]) -> Found
+    requires { ⌜ KeysRise (now s) ⌝ }
+    ensures { λ r. ⌜ r ≡ searched k (now (s .entry)) ⌝ }
+{
+    let mut i = 0;
+    while i < s.len() {
+        if k <= s[i] {
+            if s[i] == k {
+                return Found::Here(i);
+            }
+            return Found::Absent(i);
+        }
+        i += 1;
+    }
+    Found::Absent(i)
+}
+
+// Insert `x` into `s` at position `i`, pushing out the last element.
+pub fn slice_insert(s: &mut [u32], i: usize, x: u32)
+    requires { ⌜ i < length (now s) ⌝ }
+    ensures { λ _. ⌜ now (s .exit) ≡ inserted (now (s .entry)) i x ⌝ }
+{
+    let mut j = s.len() - 1;
+    while i < j {
+        s[j] = s[j - 1];
+        j -= 1;
+    }
+    s[i] = x;
+}
+
+// Shift elements in `s` to the left by `n` positions.
+pub fn slice_shift(s: &mut [u32], n: usize)
+    requires { ⌜ n ≤ length (now s) ⌝ }
+    ensures { λ _. ⌜ now (s .exit) ≡ shifted (now (s .entry)) n ⌝ }
+{
+    let m = s.len() - n;
+    let mut j = 0;
+    while j < m {
+        s[j] = s[j + n];
+        j += 1;
     }
 }

@@ -1,26 +1,27 @@
 -- PROOFS. And back: of the words of a well formed pool the check says yes
-use mathlib.Core.Path.{_≡_, refl, sym, ap, ap₂, _∙_, subst}
-use mathlib.Core.List.{List, [], _∷_, _++_, append-assoc, append-nil, map, reverse}
-use mathlib.Core.Bool.{Bool, true, false, cond, true≢false, _&&_, not}
+use mathlib.Core.Path.{_≡_, refl, sym, ap, _∙_, subst}
+use mathlib.Core.List.{List, [], _∷_, _++_, append-nil, map, reverse}
+use mathlib.Core.Bool.{Bool, true, false, _&&_, not}
 use Prim.Native.Nat.{ℕ, zero, suc, _+_, _-_, _*_, _≤_, _<_}
 use native.Mathlib.Omega.{arith}
-use lib.ListN.{length, getD, drop, length-append, length-map, length-reverse}
-use lib.Dec.{ltb, leb, eqb}
+use lib.ListN.{length, getD, length-append, length-map, length-reverse}
+use lib.Dec.{leb, eqb}
 use borrow.Author.Tests.{eqb-true, eqb-false, eq-eqb, ne-eqb, le-leb, lt-leb, leb-true, leb-false}
+use Rattle.forest.proofs.CountLaws.{encode-length}
 use Rattle.forest.specs.Lists.{once, total, count, pad}
 use Rattle.forest.specs.Pairs.{Item, Rising}
-use Rattle.forest.specs.Rows.{Node, Row, Tree, Good, line}
+use Rattle.forest.specs.Rows.{Row, Tree, Good, line}
 use Rattle.forest.specs.Trees.{pairs, numbers}
-use Rattle.forest.specs.Pools.{Pool, WellFormed, AllGood, used, root, leafWords, innerWords, inTrees, nodeWords, nodesFrom, encode, Sound}
-use Rattle.forest.proofs.ListLaws.{Test, is, isnt, test, tests, total-append, total-length}
+use Rattle.forest.specs.Pools.{Pool, WellFormed, AllGood, used, root, leafWords, innerWords, nodeWords, nodesFrom, encode, Sound}
+use Rattle.forest.proofs.ListLaws.{is, isnt, test, total-append, total-length}
 use Rattle.walk.specs.declared.Walked.{Walked}
 use Rattle.walk.specs.Marks.{has, mark, markAll}
 use Rattle.walk.proofs.MarkLaws.{Small, marks-count, fresh-once, clean, has-clean}
 use Rattle.walk.proofs.Subtree.{Sub, crown, flat, rowsOf, pairsOf, numsOf, Flagged, Each, Filled, Held, HeldTree, Fresh}
-use Rattle.walk.proofs.Towers.{tops, length-line, Wide, One, tree-one, rows-held, root-rows, numbers-rows, pairs-rows}
-use Rattle.walk.specs.Walks.{lastly, lower, span, zeros, bad, place, meets, others, walk}
-use Rattle.walk.proofs.WalkLaws.{both, length-span, length-pad, span-pad, pad-zeros, node-parts, inner-does}
-use Rattle.walk.proofs.WalkExact.{store, Ranged, walk-does, meets-does, Fit, lowOf, fresh-left, fresh-right, marks-append, each-left, each-right, lower-pos}
+use Rattle.walk.proofs.Towers.{tops, length-line, Wide, tree-one, rows-held, root-rows, numbers-rows, pairs-rows}
+use Rattle.walk.specs.Walks.{lastly, span, zeros, place, walk}
+use Rattle.walk.proofs.WalkLaws.{span-pad, pad-zeros, inner-does}
+use Rattle.walk.proofs.WalkExact.{store, Ranged, walk-does, meets-does, lowOf, fresh-left, fresh-right, marks-append, each-left, each-right, lower-pos}
 use Rattle.sound.specs.Checks.{levels, wide, fine, treeWalk, trees, frees, allMarked, framed, stacked, filled, checked}
 use Rattle.sound.proofs.CheckLaws.{rising-climbs, Parts, parts, trees-held, trees-skip, length-nodes, nodes-part, total-reverse}
 use Rattle.sound.proofs.CheckYes.{marked-does}
@@ -364,20 +365,6 @@ module _ (ws : List ℕ) (T N m : ℕ) where
       le-leb (length free) N few-free,
     )
 
-encode-length : (p : Pool) → length (encode p) ≡ length (p .trees) + 17 * p .count + 3
-unfolding encode
-encode-length p =
-    let ts = p .trees in
-    let N = p .count in
-    omega (
-      arith,
-      length-append (map root (p .trees)) (p .count ∷ (nodesFrom (p .trees) 1 (p .count) ++ (length (p .free) ∷ pad (p .count) (reverse (p .free))))),
-      length-map (p .trees) root,
-      length-append (nodesFrom (p .trees) 1 (p .count)) (length (p .free) ∷ pad (p .count) (reverse (p .free))),
-      length-nodes (p .trees) 1 (p .count),
-      length-pad (p .count) (reverse (p .free)),
-    )
-
 encode-checked : (ws : List ℕ) (m : ℕ) (p : Pool) → WellFormed m p → encode p ≡ ws → checked ws m ≡ true
 unfolding encode checked
 encode-checked ws m p w e =
@@ -395,20 +382,3 @@ encode-checked ws m p w e =
 -- the words are sound: the check says yes
 pub check-does : (ws : List ℕ) (m : ℕ) → Sound m ws → checked ws m ≡ true
 check-does ws m s = encode-checked ws m (s .pool) (s .formed) (s .same)
-
--- Six levels at most, of any well formed tree with fewer than 1365 nodes
-rows-length : (h : ℕ) (ts : List (Sub h)) (Rs : List Row) → length (rowsOf h ts Rs) ≡ suc h + length Rs
-rows-length zero ts Rs = omega arith
-rows-length (suc h) ts Rs = rows-length h _ _ ∙ omega arith
-
-sub-levels : (m h : ℕ) (t : Sub h) → Filled m 7 h true t → Wide h (t ∷ []) → length (numbers (rowsOf h (t ∷ []) [])) < 1365 → length (rowsOf h (t ∷ []) []) ≤ 6
-sub-levels m h t f w l =
-    let n : total (λ x. 1) (numbers (rowsOf h (t ∷ []) [])) ≡ total (λ x. 1) (numsOf h t) = numbers-rows (λ x. 1) h (t ∷ []) [] ∙ rw append-nil (omega arith) in
-    let g = few-levels m h t f w (omega (arith, n, total-length (numbers (rowsOf h (t ∷ []) [])), total-length (numsOf h t))) in
-    omega (arith, rows-length h (t ∷ []) [], g)
-
-pub tree-levels : (m : ℕ) (x : Tree) → Good m 7 x → length (numbers x) < 1365 → length x ≤ 6
-tree-levels m [] g l = omega arith
-tree-levels m (L ∷ Rs) g l =
-    let o = tree-one m 7 L Rs g in
-    subst (λ (x : Tree). length (numbers x) < 1365 → length x ≤ 6) (o .same) (sub-levels m (o .high) (o .sub) (o .filled) (o .wide)) l

@@ -1,21 +1,21 @@
 -- PROOFS. For the check of a whole pool: order, the layout of the words, nodes by number, counts
-use mathlib.Core.Path.{_≡_, refl, sym, ap, ap₂, _∙_, subst}
-use mathlib.Core.List.{List, [], _∷_, _++_, append-assoc, append-nil, map, reverse, reverseAux}
-use mathlib.Core.Bool.{Bool, true, false, cond, true≢false, _&&_, not}
+use mathlib.Core.Path.{_≡_, refl, sym, ap, ap₂, _∙_}
+use mathlib.Core.List.{List, [], _∷_, _++_, append-nil, map, reverse, reverseAux}
+use mathlib.Core.Bool.{true}
 use Prim.Native.Nat.{ℕ, zero, suc, _+_, _-_, _*_, _≤_, _<_}
 use native.Mathlib.Omega.{arith}
-use lib.ListN.{length, getD, drop, length-append, length-map}
+use lib.ListN.{length, getD, drop, length-append}
 use lib.Seq.{getD-append-seam, append-snoc}
-use lib.Dec.{ltb, leb, eqb}
-use borrow.Author.Tests.{eqb-true, eqb-false, eq-eqb, ne-eqb, le-leb, lt-leb, leb-true, leb-false}
+use lib.Dec.{leb, eqb}
+use borrow.Author.Tests.{eqb-true, eqb-false, eq-eqb, le-leb, leb-true}
 use Rattle.forest.specs.Lists.{once, total, count, pad}
 use Rattle.forest.specs.Pairs.{Item, Above, Rising}
 use Rattle.forest.specs.Rows.{Node, Row, Tree, nums}
 use Rattle.forest.specs.Trees.{numbers}
 use Rattle.forest.specs.Pools.{leafWords, innerWords, used, inRow, inRows, inTree, inTrees, nodeWords, nodesFrom}
-use Rattle.forest.proofs.ListLaws.{Test, is, isnt, test, tests, total-append}
+use Rattle.forest.proofs.ListLaws.{is, isnt, test, total-append}
 use Rattle.walk.proofs.Subtree.{Each, HeldRows, HeldTree}
-use Rattle.walk.specs.Walks.{span, zeros, climbs, place}
+use Rattle.walk.specs.Walks.{span, climbs, place}
 use Rattle.walk.proofs.WalkLaws.{both, length-span, span-append, append-parts, length-pad}
 
 -- Order

@@ -1,15 +1,14 @@
 -- Laws that the proofs of the check cite
-use Rattle.walk.specs.Walks.{leafLeast}
-use mathlib.Core.Path.{_≡_, refl, sym, ap, _∙_, subst}
-use mathlib.Core.List.{List, [], _∷_}
-use mathlib.Core.Bool.{Bool, true, false, cond, _&&_, not}
+use Rattle.forest.specs.Sizes.{leafLeast}
+use mathlib.Core.Path.{_≡_, refl, sym, ap, _∙_}
+use mathlib.Core.List.{List}
+use mathlib.Core.Bool.{Bool, true, false, _&&_}
 use Prim.Native.Nat.{ℕ, zero, suc, _+_, _-_, _*_, _≤_, _<_}
 use native.Mathlib.Omega.{arith}
 use lib.ListN.{length, getD, replicate, List·getD-eq-default}
-use lib.Dec.{ltb, leb, eqb}
-use borrow.Author.Tests.{eq-eqb, ne-eqb, le-leb, lt-leb, not-true, not-false}
-use Rattle.forest.proofs.ListLaws.{Test, is, isnt, test}
-use Rattle.forest.specs.Pools.{Sound}
+use lib.Dec.{leb}
+use borrow.Author.Tests.{eq-eqb, ne-eqb, le-leb, lt-leb}
+use Rattle.forest.proofs.ListLaws.{is, isnt, test}
 use Rattle.walk.specs.declared.Walked.{Walked}
 use Rattle.walk.specs.Marks.{has, mark}
 use Rattle.walk.specs.Walks.{zeros, bad, place, meets, walk}
@@ -17,7 +16,6 @@ use Rattle.sound.specs.Checks.{levels, wide, fine, treeWalk, trees, free
 use Rattle.sound.specs.Exact.{Exact}
 use Rattle.sound.proofs.CheckYes.{check-yes}
 use Rattle.sound.proofs.CheckDoes.{check-does}
-use Rattle.walk.proofs.WalkSteps.{walk-no}
 
 -- the way down
 module _ (ws : List ℕ) (T N : ℕ) where

@@ -1,24 +1,23 @@
 -- PROOFS. Where the check says yes the words are those of a well formed pool
-use mathlib.Core.Path.{_≡_, refl, sym, ap, ap₂, _∙_, subst}
-use mathlib.Core.List.{List, [], _∷_, _++_, append-assoc, append-nil, map, reverse}
-use mathlib.Core.Bool.{Bool, true, false, cond, true≢false, _&&_, not}
-use Prim.Native.Nat.{ℕ, zero, suc, _+_, _-_, _*_, _≤_, _<_}
+use mathlib.Core.Path.{_≡_, refl, sym, ap, _∙_, subst}
+use mathlib.Core.List.{List, [], _∷_, _++_, append-nil, map, reverse}
+use mathlib.Core.Bool.{true, false, cond, true≢false, _&&_}
+use Prim.Native.Nat.{ℕ, zero, suc, _+_, _-_, _*_, _≤_}
 use native.Mathlib.Omega.{arith}
-use lib.ListN.{length, getD, drop, length-append, length-map, length-reverse}
-use lib.Dec.{ltb, leb, eqb}
-use borrow.Author.Tests.{eqb-true, eqb-false, eq-eqb, ne-eqb, le-leb, lt-leb, leb-true, leb-false}
+use lib.ListN.{length, getD, length-append, length-map, length-reverse}
+use lib.Dec.{leb, eqb}
+use borrow.Author.Tests.{eqb-true, eqb-false, le-leb, leb-true, leb-false}
 use Rattle.forest.specs.Lists.{once, total, count, pad}
-use Rattle.forest.specs.Pairs.{Item}
-use Rattle.forest.specs.Rows.{Node, Row, Tree, Good}
+use Rattle.forest.specs.Rows.{Tree, Good}
 use Rattle.forest.specs.Trees.{numbers}
-use Rattle.forest.specs.Pools.{Pool, WellFormed, AllGood, used, root, inTrees, nodeWords, nodesFrom, encode, Sound}
-use Rattle.forest.proofs.ListLaws.{Test, is, isnt, test, tests, total-append}
+use Rattle.forest.specs.Pools.{Pool, WellFormed, AllGood, used, root, nodeWords, nodesFrom, encode, Sound}
+use Rattle.forest.proofs.ListLaws.{is, isnt, test, total-append}
 use Rattle.walk.specs.declared.Walked.{Walked}
 use Rattle.walk.specs.Marks.{has, mark, markAll}
 use Rattle.walk.proofs.MarkLaws.{Small, marks-count, clean, has-clean}
-use Rattle.walk.proofs.Subtree.{Sub, crown, flat, rowsOf, pairsOf, numsOf, Each, HeldTree, Fresh}
+use Rattle.walk.proofs.Subtree.{flat, rowsOf, pairsOf, numsOf, Each, HeldTree, Fresh}
 use Rattle.walk.proofs.Towers.{Wide, one-good, held-rows, root-rows, numbers-rows}
-use Rattle.walk.specs.Walks.{span, zeros, bad, place, meets, others, walk}
+use Rattle.walk.specs.Walks.{span, zeros, place, meets, others, walk}
 use Rattle.walk.proofs.WalkLaws.{both, four, length-span, zeros-pad, pad-span, length-items}
 use Rattle.walk.proofs.WalkExact.{store, Ranged, sub, num-sub, subs, length-subs, walk-yes, meets-yes, fresh-join, marks-append, each-join}
 use Rattle.sound.specs.Checks.{levels, wide, fine, treeWalk, trees, frees, allMarked, framed, stacked, filled, checked}

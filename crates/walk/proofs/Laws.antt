@@ -1,21 +1,21 @@
 -- Laws that the proofs of the code cite: a loop from its i-th turn on
-use Rattle.walk.specs.Walks.{leafLeast}
-use mathlib.Core.Path.{_≡_, refl, sym, ap, _∙_}
-use mathlib.Core.List.{List, [], _∷_}
-use mathlib.Core.Bool.{Bool, true, false, cond, _&&_, not}
+use Rattle.forest.specs.Sizes.{leafLeast}
+use mathlib.Core.Path.{_≡_, sym, ap, _∙_}
+use mathlib.Core.List.{List}
+use mathlib.Core.Bool.{Bool, true, false, _&&_, not}
 use Prim.Native.Nat.{ℕ, zero, suc, _+_, _-_, _*_, _/_, _%_, _^_, _≤_, _<_}
 use native.Mathlib.Omega.{arith}
-use lib.ListN.{length, getD, set}
+use lib.ListN.{getD, set}
 use lib.Bits.{bitOr}
 use lib.Pow.{shl-exact}
-use lib.Dec.{ltb, leb, eqb}
+use lib.Dec.{leb, eqb}
 use borrow.Author.Tests.{eq-eqb, ne-eqb, le-leb, lt-leb, leb-true}
 use Rattle.walk.specs.Marks.{bit, has, mark}
 use Rattle.walk.specs.Walks.{lower}
-use Rattle.walk.specs.Walks.{items, zeros, climbs, ends, bad, meets, leafFits, leafItems, leafWalk, innerFits}
+use Rattle.walk.specs.Walks.{items, zeros, climbs, ends, bad, meets, leafFits, leafWalk, innerFits}
 use Rattle.walk.proofs.WalkLaws.{four}
 use Rattle.walk.specs.declared.Walked.{Walked}
-use Rattle.forest.proofs.ListLaws.{Test, is, isnt, test}
+use Rattle.forest.proofs.ListLaws.{is, isnt, test}
 
 module _ (ws : List ℕ) (a r i : ℕ) where
   left : i < r → r - i ≡ suc (r - (i + 1))

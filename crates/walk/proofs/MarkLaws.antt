@@ -1,19 +1,19 @@
 -- PROOFS. Marks: a number that is marked is marked, and no other changes; so marks count
 use mathlib.Core.Path.{_≡_, refl, sym, ap, _∙_}
-use mathlib.Core.List.{List, [], _∷_, _++_}
-use mathlib.Core.Bool.{Bool, true, false, cond, true≢false, _&&_, not}
+use mathlib.Core.List.{List, [], _∷_}
+use mathlib.Core.Bool.{Bool, true, false}
 use Prim.Native.Nat.{ℕ, zero, suc, _+_, _-_, _*_, _/_, _%_, _^_, _≤_, _<_, max}
 use native.Mathlib.Nat.{mod-lt, max-zero}
 use native.Mathlib.Omega.{arith}
-use lib.ListN.{length, getD, set, length-set, replicate}
+use lib.ListN.{length, getD, length-set, replicate}
 use lib.Seq.{getD-set-same, getD-set-other}
-use lib.Dec.{ltb, leb, eqb}
+use lib.Dec.{eqb}
 use lib.Bits.{bitOr, or-shr, or-step, shifted-even}
 use lib.Arith.{digits-mod, lt-one}
 use lib.Pow.{shl-shr, pow-add, pow-lt, shr-lt}
-use borrow.Author.Tests.{eqb-true, eqb-false, eq-eqb, ne-eqb, le-leb, leb-true, leb-false}
-use Rattle.forest.specs.Lists.{once, total, count}
-use Rattle.forest.proofs.ListLaws.{Test, is, isnt, test, Tri, tri, less, same, more, tests}
+use borrow.Author.Tests.{eqb-true, eqb-false, eq-eqb, ne-eqb}
+use Rattle.forest.specs.Lists.{once, count}
+use Rattle.forest.proofs.ListLaws.{is, isnt, test, tri, less, same, more}
 use Rattle.walk.specs.Marks.{bit, has, mark, markAll}
 use Rattle.walk.proofs.Subtree.{Each, Fresh}
 

@@ -1,14 +1,14 @@
 -- PROOFS. Subtrees are rows: what holds of the one holds of the other
 use mathlib.Core.Path.{_≡_, refl, sym, ap, _∙_}
 use mathlib.Core.List.{List, [], _∷_, _++_, append-assoc, append-nil, map}
-use mathlib.Core.Bool.{Bool, true, false, cond}
-use Prim.Native.Nat.{ℕ, zero, suc, _+_, _-_, _≤_, _<_}
+use mathlib.Core.Bool.{Bool, true, false}
+use Prim.Native.Nat.{ℕ, zero, suc, _+_, _-_, _≤_}
 use native.Mathlib.Omega.{arith}
 use lib.ListN.{length, length-append, length-map, take, drop, take-append-drop}
 use lib.Seq.{take-append-seam, drop-append-seam}
 use Rattle.forest.specs.Lists.{total}
-use Rattle.forest.specs.Pairs.{Item, Rising}
-use Rattle.forest.specs.Rows.{Node, Row, Tree, node, line, joined, nums, size, sizes, least, Fill, Tower, Good}
+use Rattle.forest.specs.Pairs.{Rising}
+use Rattle.forest.specs.Rows.{Node, Row, Tree, line, joined, nums, size, sizes, least, Fill, Tower, Good}
 use Rattle.forest.specs.Trees.{pairs, numbers}
 use Rattle.forest.specs.Pools.{leafWords, innerWords, root, rootAbove}
 use Rattle.forest.proofs.ListLaws.{map-append, map-take, map-drop, total-append}

@@ -1,22 +1,21 @@
 -- PROOFS. The walk says yes exactly where the words hold a subtree, and what it hands back then
 use mathlib.Core.Path.{_≡_, refl, sym, ap, _∙_, subst}
-use mathlib.Core.List.{List, [], _∷_, _++_, append-assoc, append-nil, map}
+use mathlib.Core.List.{List, [], _∷_, _++_}
 use mathlib.Core.Bool.{Bool, true, false, cond, true≢false, _&&_, not}
-use Prim.Native.Nat.{ℕ, zero, suc, _+_, _-_, _*_, _≤_, _<_}
+use Prim.Native.Nat.{ℕ, zero, suc, _+_, _-_, _≤_}
 use native.Mathlib.Omega.{arith}
-use lib.ListN.{length, getD, drop, length-append, length-map}
-use lib.Dec.{ltb, leb, eqb}
+use lib.ListN.{length, getD, length-map}
+use lib.Dec.{leb, eqb}
 use borrow.Author.Tests.{eqb-true, eq-eqb, le-leb, leb-true, not-true}
 use Rattle.forest.specs.Pairs.{Item}
-use Rattle.forest.specs.Rows.{Node, Row, node, front, line}
-use Rattle.forest.specs.Pools.{leafWords, innerWords}
-use Rattle.forest.proofs.ListLaws.{Test, is, isnt, test}
+use Rattle.forest.specs.Rows.{node, front, line}
+use Rattle.forest.proofs.ListLaws.{is, isnt, test}
 use Rattle.walk.specs.declared.Walked.{Walked}
 use Rattle.walk.specs.Marks.{has, mark, markAll}
 use Rattle.walk.proofs.Subtree.{Sub, crown, flat, pairsOf, numsOf, Flagged, Each, Filled, Held, Fresh}
 use Rattle.walk.specs.Walks.{lastly, lower}
 use Rattle.walk.proofs.Towers.{tops, length-line}
-use Rattle.walk.specs.Walks.{span, items, zeros, climbs, ends, bad, place, meets, leafFits, leafItems, leafWalk, innerFits, rest, others, innerWalk, walk}
+use Rattle.walk.specs.Walks.{span, climbs, ends, bad, place, meets, leafFits, leafItems, leafWalk, innerFits, rest, others, innerWalk, walk}
 use Rattle.walk.proofs.WalkLaws.{both, leaf-yes, leaf-does, inner-yes, inner-does}
 
 -- Appended lists

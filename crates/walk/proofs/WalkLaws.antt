@@ -1,21 +1,19 @@
 -- PROOFS. The walk says yes exactly where the words hold a subtree
 use mathlib.Core.Path.{_≡_, refl, sym, ap, _∙_}
-use mathlib.Core.List.{List, [], _∷_, _++_, append-assoc, append-nil, map}
-use mathlib.Core.Bool.{Bool, true, false, cond, true≢false, _&&_, not}
-use Prim.Native.Nat.{ℕ, zero, suc, _+_, _-_, _*_, _≤_, _<_}
+use mathlib.Core.List.{List, [], _∷_, _++_, map}
+use mathlib.Core.Bool.{Bool, true, false, true≢false, _&&_}
+use Prim.Native.Nat.{ℕ, zero, suc, _+_, _-_, _≤_}
 use native.Mathlib.Omega.{arith}
-use lib.ListN.{length, getD, drop, length-append, length-map}
-use lib.Dec.{ltb, leb, eqb}
-use borrow.Author.Tests.{lt-ltb, le-ltb, ltb-true, ltb-false, eqb-true, eqb-false, eq-eqb, ne-eqb, le-leb, lt-leb, leb-true, leb-false}
+use lib.ListN.{length, getD, length-map}
+use lib.Dec.{leb, eqb}
+use borrow.Author.Tests.{eqb-true, le-leb, leb-true}
 use Rattle.forest.specs.Lists.{pad}
 use Rattle.forest.specs.Pairs.{Item}
-use Rattle.forest.specs.Rows.{Node, Row, node, front, line}
+use Rattle.forest.specs.Rows.{node}
 use Rattle.forest.specs.Pools.{leafWords, innerWords}
-use Rattle.forest.proofs.ListLaws.{Test, is, isnt, test, tests}
-use Rattle.walk.specs.declared.Walked.{Walked}
-use Rattle.walk.specs.Marks.{has, mark, markAll}
+use Rattle.forest.proofs.ListLaws.{is}
 use Rattle.walk.specs.Walks.{lower}
-use Rattle.walk.specs.Walks.{span, items, zeros, climbs, ends, bad, place, meets, leafFits, leafItems, leafWalk, innerFits, rest, others, innerWalk, walk}
+use Rattle.walk.specs.Walks.{span, items, zeros, leafFits, leafItems, innerFits, others, walk}
 
 -- Bool
 pub both : (a b : Bool) → a && b ≡ true → (a ≡ true) × (b ≡ true)
@@ -28,9 +26,6 @@ four a b c d e =
     let g = both b (c && d) (f .1) in
     let h = both c d (g .1) in
     (f .0, g .0, h .0, h .1)
-
-pub yes-of : {A : Type 0} (a : Bool) (x y : A) → a ≡ true → cond a x y ≡ x
-yes-of a x y e = rw e
 
 -- Words
 module _ (ws : List ℕ) where

@@ -1,0 +1,5 @@
+pub mod Pads
+pub mod Words
+pub mod ItemLaws
+pub mod Steps
+pub mod OnItems

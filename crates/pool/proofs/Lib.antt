@@ -1,0 +1,5 @@
+pub mod Spell
+pub mod Bridges
+pub mod Stacks
+pub mod Patches
+pub mod Fresh

@@ -1,0 +1,92 @@
+-- DEFINITIONS. The words of a pool over a store of nodes, and what is read, stored, taken and given there
+use mathlib.Core.List.{List, [], _∷_, _++_, reverse}
+use mathlib.Core.Bool.{cond}
+use mathlib.Core.Path.{_≡_}
+use Prim.Native.Nat.{ℕ, zero, suc, _+_, _-_, _*_, _≤_, _<_}
+use lib.ListN.{length, take, drop, getD, set}
+use lib.Dec.{eqb}
+use Rattle.forest.specs.Sizes.{mostNodes, nodeSize}
+use Rattle.forest.specs.Lists.{pad}
+
+-- a store: the words of each number
+abbrev pub Store : Type 0
+Store = ℕ → List ℕ
+
+-- the store with the words of one number anew
+abbrev pub put : Store → ℕ → List ℕ → Store
+put st n w = λ x. cond (eqb x n) w (st x)
+
+-- each number has the words of a node
+abbrev pub Sixteen : Store → Type 0
+Sixteen st = (n : ℕ) → length (st n) ≡ nodeSize
+
+-- the words of c nodes from number n on
+abbrev pub blocks : Store → ℕ → ℕ → List ℕ
+blocks st n zero = []
+blocks st n (suc c) = st n ++ blocks st (suc n) c
+
+-- the words: roots, the store of N nodes, the free numbers with the top of the stack first
+unfoldable pub spell : List ℕ → ℕ → Store → List ℕ → List ℕ
+spell roots N st free = (length roots ∷ roots ++ (N ∷ [])) ++ (blocks st 1 N ++ (length free ∷ pad N (reverse free)))
+
+-- where the words of node n start; t trees
+abbrev pub base : ℕ → ℕ → ℕ
+base t n = t + nodeSize * n - 14
+
+-- xs with ys in the place of as many words from a on
+unfoldable pub patched : List ℕ → ℕ → List ℕ → List ℕ
+patched xs a ys = take a xs ++ (ys ++ drop (a + length ys) xs)
+
+-- the words of node n
+unfoldable pub block : List ℕ → ℕ → ℕ → List ℕ
+block ws t n = take nodeSize (drop (base t n) ws)
+
+-- with other words for node n
+unfoldable pub withBlock : List ℕ → ℕ → ℕ → List ℕ → List ℕ
+withBlock ws t n w = patched ws (base t n) w
+
+-- the words of a free node
+abbrev pub noWords : List ℕ
+noWords = pad nodeSize []
+
+-- where the count of the free numbers stands, and what it is
+abbrev pub stackAt : List ℕ → ℕ → ℕ
+stackAt ws t = t + 2 + nodeSize * getD ws (t + 1) 0
+
+abbrev pub frees : List ℕ → ℕ → ℕ
+frees ws t = getD ws (stackAt ws t) 0
+
+-- the top of the stack, and the words once it is taken
+abbrev pub topNode : List ℕ → ℕ → ℕ
+topNode ws t = getD ws (stackAt ws t + frees ws t) 0
+
+unfoldable pub takenWords : List ℕ → ℕ → List ℕ
+takenWords ws t = set (set ws (stackAt ws t) (frees ws t - 1)) (stackAt ws t + frees ws t) 0
+
+-- the words with n on top of the stack, and those with the words of n made zeros too
+unfoldable pub pushedWords : List ℕ → ℕ → ℕ → List ℕ
+pushedWords ws t n = set (set ws (stackAt ws t) (frees ws t + 1)) (stackAt ws t + (frees ws t + 1)) n
+
+unfoldable pub freedWords : List ℕ → ℕ → ℕ → List ℕ
+freedWords ws t n = withBlock (pushedWords ws t n) t n noWords
+
+-- node n has its place in the words
+pub record Placed (ws : List ℕ) (t n : ℕ) : Type 0 where
+  pub some : 1 ≤ n
+  pub room : base t n + nodeSize ≤ length ws
+
+-- the stack is in the words, and not empty
+pub record Stocked (ws : List ℕ) (t : ℕ) : Type 0 where
+  pub some : 1 ≤ frees ws t
+  pub room : stackAt ws t + frees ws t < length ws
+
+-- node n has its place, and the stack has room for one more
+pub record Freeable (ws : List ℕ) (t n : ℕ) : Type 0 where
+  pub node : Placed ws t n
+  pub few : frees ws t < mostNodes
+  pub room : stackAt ws t + (frees ws t + 1) < length ws
+
+-- the free stack of a fresh pool as it stands: n, n - 1, .., 1
+abbrev pub down : ℕ → List ℕ
+down zero = []
+down (suc n) = suc n ∷ down n

@@ -1,0 +1,25 @@
+use mathlib.Core.Path.{sym}
+use native.Mathlib.Omega.{arith}
+use lib.Seq.{length-take-le}
+use borrow.Author.Needs.{needs}
+use Rattle.pool_table.proofs.say_first.Statement.{statement}
+use Rattle.pool_table.proofs.say_first.Tie as tie
+
+slice-aggregate-check : tie.Need-slice-aggregate-check
+slice-aggregate-check c = sym (length-take-le (c .before .before .before .before .args .long) (c .before .before .before .before .args .ws .now) (omega arith))
+
+check-requires : tie.Need-check-requires
+check-requires c κs = search needs
+
+say-requires : tie.Need-say-requires
+say-requires c κs = search needs
+
+returns : tie.Need-returns
+returns c = search needs
+
+returns-2 : tie.Need-returns-2
+returns-2 c = search needs
+
+pub say-first-spec : {M : Type 1} → statement M
+say-first-spec =
+    tie.close (tie.spec slice-aggregate-check check-requires say-requires returns returns-2)

@@ -1,0 +1,221 @@
+// Pools that are written out by hand, into words that are all 0.
+ghost use Prim.Native.Nat.{_≤_, _<_};
+
+// Copies words to place a and after it, where there is room.
+pub fn words(ws: &mut [u32], a: usize, from: &[u32])
+    requires { ⌜ a < 10000 ⌝ }
+{
+    let mut i = 0;
+    while i < from.len() {
+        if a + i < ws.len() {
+            ws[a + i] = from[i];
+        }
+        i += 1;
+    }
+}
+
+// Document 01: T = 1, N = 2, fresh. 38 words.
+pub fn fresh(ws: &mut [u32]) {
+    words(ws, 0, &[1, 0, 2]);
+    words(ws, 35, &[2, 2, 1]);
+}
+
+// Document 01: the same after putting 9 with value 100 in tree 0.
+pub fn one_pair(ws: &mut [u32]) {
+    words(ws, 0, &[1, 1, 2]);
+    words(ws, 3, &[33, 9, 0, 0, 0, 0, 0, 0, 100, 0, 0, 0, 0, 0, 0, 0]);
+    words(ws, 35, &[1, 2]);
+}
+
+// An inside leaf of 3 entries: 10, 20, 30 / 40 below node 3. 55 words.
+pub fn inside_three(ws: &mut [u32]) {
+    words(ws, 0, &[1, 3, 3]);
+    words(ws, 3, &[35, 10, 20, 30, 0, 0, 0, 0, 1, 2, 3, 0, 0, 0, 0, 0]);
+    words(ws, 19, &[33, 40, 0, 0, 0, 0, 0, 0, 4, 0, 0, 0, 0, 0, 0, 0]);
+    words(ws, 35, &[17, 40, 0, 0, 0, 0, 0, 0, 1, 2, 0, 0, 0, 0, 0, 0]);
+}
+
+// An inner node of one child, the last of its level: tree 0 has three levels, node 8 over 6 and 7 over leaves 1 to 5. 209 words.
+pub fn one_child(ws: &mut [u32]) {
+    one_child_leaves(ws);
+    one_child_above(ws);
+}
+
+fn one_child_leaves(ws: &mut [u32]) {
+    words(
+        ws,
+        4,
+        &[35, 10, 11, 12, 0, 0, 0, 0, 100, 110, 120, 0, 0, 0, 0, 0],
+    );
+    words(
+        ws,
+        20,
+        &[35, 20, 21, 22, 0, 0, 0, 0, 200, 210, 220, 0, 0, 0, 0, 0],
+    );
+    words(
+        ws,
+        36,
+        &[36, 30, 31, 32, 33, 0, 0, 0, 300, 310, 320, 330, 0, 0, 0, 0],
+    );
+    words(
+        ws,
+        52,
+        &[35, 40, 41, 42, 0, 0, 0, 0, 400, 410, 420, 0, 0, 0, 0, 0],
+    );
+    words(
+        ws,
+        68,
+        &[33, 50, 0, 0, 0, 0, 0, 0, 500, 0, 0, 0, 0, 0, 0, 0],
+    );
+}
+
+// Tree 1 is leaf 9, with the least and the greatest key; 10 to 12 are free.
+fn one_child_above(ws: &mut [u32]) {
+    words(ws, 0, &[2, 8, 9, 12]);
+    words(
+        ws,
+        84,
+        &[19, 20, 30, 40, 0, 0, 0, 0, 1, 2, 3, 4, 0, 0, 0, 0],
+    );
+    words(ws, 100, &[16, 0, 0, 0, 0, 0, 0, 0, 5, 0, 0, 0, 0, 0, 0, 0]);
+    words(ws, 116, &[17, 50, 0, 0, 0, 0, 0, 0, 6, 7, 0, 0, 0, 0, 0, 0]);
+    words(
+        ws,
+        132,
+        &[34, 0, 4294967295, 0, 0, 0, 0, 0, 1, 2, 0, 0, 0, 0, 0, 0],
+    );
+    words(ws, 196, &[3, 12, 11, 10]);
+}
+
+// The number of entries of leaf j of the six levels.
+fn entries(j: u32) -> u32
+    ensures { λ r. ⌜ r ≤ 3 ⌝ }
+{
+    if j < 256 {
+        return 3;
+    }
+    1
+}
+
+// Word p of leaf j.
+fn leaf_word(j: u32, p: u32) -> u32
+    requires { ⌜ j < 257 ⌝ }
+{
+    let s = entries(j);
+    if p == 0 {
+        return 32 + s;
+    }
+    if p <= s {
+        return 10 * j + p;
+    }
+    if p < 8 {
+        return 0;
+    }
+    if p < 8 + s {
+        return j;
+    }
+    0
+}
+
+// The smallest key below the x-th node of a level.
+fn lowest(level: u32, x: u32) -> u32
+    requires { ⌜ x < 300 ⌝ }
+{
+    match level {
+        0 => 10 * x + 1,
+        1 => 40 * x + 1,
+        2 => 160 * x + 1,
+        3 => 640 * x + 1,
+        _ => 2560 * x + 1,
+    }
+}
+
+// Word p of an inner node with c children, whose first is the x-th node of the level below, with number n.
+fn inner_word(level: u32, c: u32, x: u32, n: u32, p: u32) -> u32
+    requires { ⌜ (c ≤ 4) × (x < 257) × (n < 512) ⌝ }
+{
+    if p == 0 {
+        return 15 + c;
+    }
+    if p < c {
+        return lowest(level, x + p);
+    }
+    if p < 8 {
+        return 0;
+    }
+    if p < 8 + c {
+        return n + p - 8;
+    }
+    0
+}
+
+// The children of the i-th of `count` nodes of a level: 4, and of the last one `last`.
+fn children(i: u32, count: u32, last: u32) -> u32
+    requires { ⌜ (last ≤ 4) × (i < 1000) ⌝ }
+    ensures { λ r. ⌜ r ≤ 4 ⌝ }
+{
+    if i + 1 < count {
+        return 4;
+    }
+    last
+}
+
+// Word p of the node after n others. The leaves come first, then the inner nodes level by level.
+fn node_word(n: u32, p: u32) -> u32 {
+    if n < 257 {
+        return leaf_word(n, p);
+    }
+    if n < 322 {
+        let i = n - 257;
+        return inner_word(0, children(i, 65, 1), 4 * i, 4 * i + 1, p);
+    }
+    if n < 339 {
+        let i = n - 322;
+        return inner_word(1, children(i, 17, 1), 4 * i, 4 * i + 258, p);
+    }
+    if n < 344 {
+        let i = n - 339;
+        return inner_word(2, children(i, 5, 1), 4 * i, 4 * i + 323, p);
+    }
+    if n < 346 {
+        let i = n - 344;
+        return inner_word(3, children(i, 2, 1), 4 * i, 4 * i + 340, p);
+    }
+    if n == 346 {
+        return inner_word(4, 2, 0, 345, p);
+    }
+    0
+}
+
+// The word at a place of a pool of six levels: 257 leaves below 65, 17, 5, 2 and 1 inner nodes. All but the last of a level are as small
+// as they may be, and the last ones have one entry or one child; 165 nodes of 512 are free.
+fn six_word(at: usize) -> u32 {
+    if at == 0 {
+        return 1;
+    }
+    if at == 1 {
+        return 347;
+    }
+    if at == 2 {
+        return 512;
+    }
+    if at < 8195 {
+        let i = (at - 3) as u32;
+        return node_word(i / 16, i % 16);
+    }
+    if at == 8195 {
+        return 165;
+    }
+    if at < 8361 {
+        return (8708 - at) as u32;
+    }
+    0
+}
+
+pub fn six_levels(ws: &mut [u32]) {
+    let mut i = 0;
+    while i < ws.len() {
+        ws[i] = six_word(i);
+        i += 1;
+    }
+}
