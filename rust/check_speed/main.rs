@@ -5,7 +5,7 @@ use std::hint::black_box;
 use std::time::Instant;
 
 extern "C" {
-    fn tp_check(ws: *const u32, len: usize) -> u32;
+    fn recorder_check(words: *const u32, len: usize) -> bool;
 }
 
 // One tree of `leaves` leaves with `entries` pairs each, under inner nodes of `fan` children; unused nodes are free.
@@ -84,11 +84,11 @@ fn least(mut f: impl FnMut() -> u32) -> f64 {
 }
 
 fn measure(name: &str, ws: &[u32]) {
-    assert_eq!(unsafe { tp_check(ws.as_ptr(), ws.len()) }, 1, "{name}: not sound");
+    assert!(unsafe { recorder_check(ws.as_ptr(), ws.len()) }, "{name}: not sound");
     let mut broken = ws.to_vec();
     broken[ws.len() - 1] += 1;
-    assert_eq!(unsafe { tp_check(broken.as_ptr(), broken.len()) }, 0, "{name}: taken for sound");
-    let check = least(|| unsafe { tp_check(black_box(ws.as_ptr()), ws.len()) });
+    assert!(!unsafe { recorder_check(broken.as_ptr(), broken.len()) }, "{name}: taken for sound");
+    let check = least(|| unsafe { recorder_check(black_box(ws.as_ptr()), ws.len()) as u32 });
     let plain = least(|| sum(black_box(ws)));
     let single = least(|| sum_word_by_word(black_box(ws)));
     let line = |what: &str, ns: f64| {

@@ -40,6 +40,7 @@ pub enum Reply {
 }
 
 // An answer in document 01's numbers.
+#[repr(C)]
 pub struct Answer {
     pub number: u32,
     pub found: bool,
@@ -48,6 +49,7 @@ pub struct Answer {
 }
 
 // A place in a tree: of each level from the root the node and the place in it; unused levels hold 0.
+#[repr(C)]
 pub struct Cursor {
     pub tree: u32,
     pub size: u32,

@@ -1,0 +1,186 @@
+-- PROOFS. Where a path stands in a leaf: its words, the need, and what the steps of the code make of them
+use mathlib.Core.Path.{_≡_, sym, ap, _∙_}
+use mathlib.Core.List.{List}
+use mathlib.Core.Bool.{true, false}
+use Prim.Native.Nat.{ℕ, suc, _+_, _-_, _≤_, _<_}
+use native.Mathlib.Omega.{arith}
+use lib.ListN.{length, drop, getD, length-drop}
+use lib.Seq.{set-getD}
+use borrow.Author.Tests.{le-leb, lt-leb}
+use Rattle.forest.specs.Lists.{insertAt, once, count}
+use Rattle.forest.specs.Pairs.{Item}
+use Rattle.forest.specs.Rows.{front, sizes, itemsAt, keeps, full}
+use Rattle.forest.specs.Trees.{numbers, needUp}
+use Rattle.forest.specs.Pools.{leafWords, rootAbove}
+use Rattle.forest.proofs.ListLaws.{is, drop-one}
+use Rattle.forest.proofs.RowLaws.{length-items}
+use Rattle.pool.specs.Stores.{put, spell, block, withBlock, topNode, Placed}
+use Rattle.pool.proofs.Bridges.{spell-placed, spell-block, spell-withBlock}
+use Rattle.node.specs.declared.SplitOff.{SplitOff}
+use Rattle.node.specs.Nodes.{Leaf, leafPairs, splitOf}
+use Rattle.node.proofs.Words.{leaf-pairs, leaf-is}
+use Rattle.grow.specs.Grows
+use Rattle.grow.proofs.Mem
+use Rattle.grow.proofs.Spelling
+use Rattle.grow.proofs.Cutting
+
+-- the items of the leaf
+abbrev pub leafOf : Grows.Scene → List Item
+leafOf s = itemsAt (s .row) (s .at)
+
+abbrev pub leafNum : Grows.Scene → ℕ
+leafNum s = Grows.numAt (s .row) (s .at)
+
+module _ (ws : List ℕ) (t tree : ℕ) (ns ps : List ℕ) (level : ℕ) where
+  module _ (s : Grows.Scene) (p : ℕ) (d : Grows.Land s p ws t tree ns ps level) where
+    pub leaf-range : (1 ≤ leafNum s) × (leafNum s ≤ s .nodes)
+    leaf-range = d .range-more (leafNum s) (Mem.numAt-counts (s .row) (s .at) (d .under .within))
+
+    pub leaf-placed : Placed ws t (getD ns level 0)
+    leaf-placed =
+        rw (d .node, ← (d .under .words), ← (d .under .trees))
+        (spell-placed (s .roots) (s .nodes) (s .store) (s .free) (d .under .sixteen) (leafNum s) (leaf-range .0) (leaf-range .1))
+
+    pub leaf-block : block ws t (getD ns level 0) ≡ leafWords (leafOf s)
+    leaf-block =
+        rw (d .node, ← (d .under .words), ← (d .under .trees))
+        (spell-block (s .roots) (s .nodes) (s .store) (s .free) (d .under .sixteen) (leafNum s) (leaf-range .0) (leaf-range .1) ∙
+        Mem.holds-at leafWords (s .store) (s .row) (s .at) (d .under .within) (d .leaves))
+
+    pub leaf-size : (1 ≤ length (leafOf s)) × (length (leafOf s) ≤ 7)
+    leaf-size = rw (length-items (s .row) (s .at)) (d .some, d .few)
+
+    pub leaf-inside : p ≤ length (leafOf s)
+    leaf-inside = rw (length-items (s .row) (s .at)) (d .inside)
+
+    pub leaf-room : getD (block ws t (getD ns level 0)) 0 0 < 39 → full 7 (s .at) (s .row) ≡ false
+    leaf-room b = let z = rw leaf-block at b in lt-leb 7 (getD (sizes (s .row)) (s .at) 0) (omega (arith, length-items (s .row) (s .at)))
+
+    pub leaf-full : 39 ≤ getD (block ws t (getD ns level 0)) 0 0 → full 7 (s .at) (s .row) ≡ true
+    leaf-full b = let z = rw leaf-block at b in le-leb 7 (getD (sizes (s .row)) (s .at) 0) (omega (arith, length-items (s .row) (s .at)))
+
+  -- for each scene of these words
+  pub load-leaf : Grows.Lands ws t tree ns ps level → Placed ws t (getD ns level 0)
+  load-leaf g = leaf-placed (g .scene) (g .entry) (g .land)
+
+  pub unders : Grows.Lands ws t tree ns ps level → Grows.Unders ws t tree ns ps level
+  unders g = record { scene = g .scene; under = g .land .under }
+
+  pub none-here : (w : List ℕ) → w ≡ block ws t (getD ns level 0) → getD w 0 0 < 39 → (s : Grows.Scene) (p : ℕ) → Grows.Land s p ws t tree ns ps level → 0 ≡ Grows.leafNeed s
+  none-here w e h s p d = sym (rw (leaf-room s p d (rw e at h)))
+
+  pub more-here : (r : ℕ) (w : List ℕ) → w ≡ block ws t (getD ns level 0) → 39 ≤ getD w 0 0 →
+      ((s : Grows.Scene) → Grows.Under s ws t tree ns ps level → r ≡ needUp (s .at) (s .rows)) → (s : Grows.Scene) (p : ℕ) → Grows.Land s p ws t tree ns ps level → 1 + r ≡ Grows.leafNeed s
+  more-here r w e h f s p d =
+      let z : Grows.leafNeed s ≡ suc (needUp (s .at) (s .rows)) = rw (leaf-full s p d (rw e at h)) in
+      let y = f s (d .under) in
+      omega arith
+
+-- THE ENTRY COMES
+-- the scene once the leaf is cut, x at place p in it
+abbrev pub cutLeaf : Grows.Scene → ℕ → Item → Grows.Scene
+cutLeaf s p x = Cutting.cutFrom s (leafNum s) (leafWords (Grows.leftPart 7 p x (leafOf s))) (leafWords (Grows.rightPart 7 p x (leafOf s)))
+
+landed-room : (s : Grows.Scene) (p tree : ℕ) (x : Item) → getD (s .roots) tree 0 ≡ rootAbove (s .row) (s .rows) → full 7 (s .at) (s .row) ≡ false →
+    Grows.landedWords s p tree x ≡ spell (s .roots) (s .nodes) (put (s .store) (leafNum s) (leafWords (insertAt p x (leafOf s)))) (s .free)
+unfolding Grows.landedWords
+landed-room s p tree x e q = simp (q, ← e, set-getD (s .roots) tree 0)
+
+landed-full : (s : Grows.Scene) (p tree : ℕ) (x : Item) → full 7 (s .at) (s .row) ≡ true →
+    Grows.climbed (cutLeaf s p x) tree (front (Grows.rightPart 7 p x (leafOf s)), getD (s .free) 0 0) ≡ Grows.landedWords s p tree x
+unfolding Grows.landedWords Grows.climbed
+landed-full s p tree x q = simp (q, drop-one)
+
+module _ (ws : List ℕ) (t tree : ℕ) (ns ps : List ℕ) (level : ℕ) (w : List ℕ) (e : w ≡ block ws t (getD ns level 0)) where
+  module _ (s : Grows.Scene) (p : ℕ) (d : Grows.Land s p ws t tree ns ps level) where
+    pub is-leaf : w ≡ leafWords (leafOf s)
+    is-leaf = e ∙ leaf-block ws t tree ns ps level s p d
+
+    pub first-word : getD w 0 0 ≡ 32 + length (leafOf s)
+    first-word = ap (λ (v : List ℕ). getD v 0 0) is-leaf
+
+    leaf-words : Leaf w
+    leaf-words = let z = leaf-size ws t tree ns ps level s p d in rw is-leaf (leaf-is (leafOf s) (z .0) (z .1))
+
+    pub insert-asks : getD w 0 0 < 39 → Leaf w × (getD w 0 0 < 39) × (getD ps level 0 ≤ getD w 0 0 - 32)
+    insert-asks h = (leaf-words, h, rw (d .place) (omega (arith, first-word, leaf-inside ws t tree ns ps level s p d)))
+
+    pub split-asks : 39 ≤ getD w 0 0 → Leaf w × (getD w 0 0 ≡ 39) × (getD ps level 0 ≤ 7)
+    split-asks h =
+        let z = leaf-size ws t tree ns ps level s p d in
+        (leaf-words, omega (arith, first-word), rw (d .place) (omega (arith, leaf-inside ws t tree ns ps level s p d)))
+
+    pub pairs-are : leafPairs w ≡ leafOf s
+    pairs-are = ap leafPairs is-leaf ∙ leaf-pairs (leafOf s) ((leaf-size ws t tree ns ps level s p d) .1)
+
+  -- a leaf with room
+  pub room-done : (key value : ℕ) (v o : List ℕ) → getD w 0 0 < 39 → v ≡ leafWords (insertAt (getD ps level 0) (key, value) (leafPairs w)) → o ≡ withBlock ws t (getD ns level 0) v →
+      (s : Grows.Scene) (p : ℕ) → Grows.Landed s p ws t tree ns ps level → o ≡ Grows.landedWords s p tree (key, value)
+  room-done key value v o h k f s p g =
+      let d = g .land in
+      let u = d .under in
+      let r = leaf-range ws t tree ns ps level s p d in
+      let z : v ≡ leafWords (insertAt p (key, value) (leafOf s)) = k ∙ rw (pairs-are s p d, d .place) in
+      f ∙
+      rw (z, d .node, ← (u .words), ← (u .trees))
+      (spell-withBlock (s .roots) (s .nodes) (s .store) (s .free) (u .sixteen) (leafNum s) (r .0) (r .1) _ (Spelling.leaf-length (insertAt p (key, value) (leafOf s))) ∙
+      sym (landed-room s p tree (key, value) (u .root) (leaf-room ws t tree ns ps level s p d (rw e at h))))
+
+  -- a full one
+  module _ (key value : ℕ) (r : SplitOff) (q : r ≡ splitOf leafWords (keeps 7 (getD ps level 0)) (getD ps level 0) (insertAt (getD ps level 0) (key, value) (leafPairs w)))
+      (h : 39 ≤ getD w 0 0) (s : Grows.Scene) (p : ℕ) (g : Grows.Landed s p ws t tree ns ps level) where
+    abbrev x : Item
+    x = (key, value)
+
+    u : Grows.Under s ws t tree ns ps level
+    u = g .land .under
+
+    is-full : full 7 (s .at) (s .row) ≡ true
+    is-full = leaf-full ws t tree ns ps level s p (g .land) (rw e at h)
+
+    needs-more : Grows.leafNeed s ≡ suc (needUp (s .at) (s .rows))
+    needs-more = rw is-full
+
+    some-free : 1 ≤ length (s .free)
+    some-free = omega (arith, needs-more, g .enough)
+
+    still-enough : needUp (s .at) (s .rows) ≤ length (drop 1 (s .free))
+    still-enough = omega (arith, length-drop 1 (s .free), needs-more, g .enough)
+
+    left-is : r .left ≡ leafWords (Grows.leftPart 7 p x (leafOf s))
+    left-is = ap (λ (o : SplitOff). o .left) q ∙ rw (pairs-are s p (g .land), g .land .place)
+
+    right-is : r .right ≡ leafWords (Grows.rightPart 7 p x (leafOf s))
+    right-is = ap (λ (o : SplitOff). o .right) q ∙ rw (pairs-are s p (g .land), g .land .place)
+
+    key-is : r .key ≡ front (Grows.rightPart 7 p x (leafOf s))
+    key-is = ap (λ (o : SplitOff). o .key) q ∙ rw (pairs-are s p (g .land), g .land .place)
+
+    pub cuts-asks : Grows.Cuts ws t (getD ns level 0)
+    cuts-asks = record {
+      takes = Cutting.takes ws t tree ns ps level s u some-free;
+      node = leaf-placed ws t tree ns ps level s p (g .land);
+    }
+
+    apart : count (leafNum s) (numbers (s .rows)) ≡ 0
+    apart = omega (arith, Mem.numAt-counts (s .row) (s .at) (u .within), g .land .once-more (leafNum s))
+
+    module _ (m : List ℕ) (f : m ≡ Grows.cutWords ws t (getD ns level 0) (r .left) (r .right)) where
+      pub climb-asks : Grows.Climb (cutLeaf s p x) m t tree ns ps level
+      climb-asks =
+          let n = leaf-range ws t tree ns ps level s p (g .land) in
+          record {
+            under = Cutting.cut-under ws t tree ns ps level s u some-free (leafNum s) (n .0) (n .1) apart
+                (leafWords (Grows.leftPart 7 p x (leafOf s))) (leafWords (Grows.rightPart 7 p x (leafOf s)))
+                (Spelling.leaf-length (Grows.leftPart 7 p x (leafOf s))) (Spelling.leaf-length (Grows.rightPart 7 p x (leafOf s))) m (f ∙ rw (left-is, right-is, g .land .node));
+            enough = still-enough;
+          }
+
+      pub climb-done : (rhs : ℕ) (o : List ℕ) → rhs ≡ topNode ws t → ((s′ : Grows.Scene) → Grows.Climb s′ m t tree ns ps level → o ≡ Grows.climbed s′ tree (r .key, rhs)) →
+          o ≡ Grows.landedWords s p tree x
+      climb-done rhs o a ens =
+          ens (cutLeaf s p x) climb-asks ∙ rw (key-is, a, Cutting.top-is ws t tree ns ps level s u some-free) (landed-full s p tree x is-full)
+
+  -- what the code asks of some scene
+  pub fits-lands : Grows.Fits ws t tree ns ps level → Grows.Lands ws t tree ns ps level
+  fits-lands g = record { scene = g .scene; entry = g .entry; land = g .landed .land }

@@ -1,0 +1,16 @@
+pub mod Lead
+pub mod Change
+pub mod Mem
+pub mod Up
+pub mod Leaves
+pub mod Pooled
+pub mod Spelling
+pub mod Climbs
+pub mod Cutting
+pub mod Steps
+pub mod Landings
+pub mod Sites
+pub mod Calls
+pub mod Replacing
+pub mod Putting
+pub mod PutAt

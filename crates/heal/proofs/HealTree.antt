@@ -1,0 +1,290 @@
+-- DEFINITIONS and PROOFS. A pair is removed at a cursor: the cut of the leaf, the key, the healing; then the rows are those of the definition
+use mathlib.Core.Path.{_≡_, refl, sym, ap, _∙_, subst}
+use mathlib.Core.List.{List, [], _∷_, _++_, append-assoc, append-nil, map}
+use mathlib.Core.Bool.{Bool, true, false, cond, true≢false}
+use mathlib.Core.Option.{Option, none, some}
+use Prim.Native.Nat.{ℕ, zero, suc, _+_, _-_, _*_, _≤_, _<_, _/_, min}
+use native.Mathlib.Omega.{arith}
+use lib.ListN.{length, take, drop, getD, set, length-append, length-map, length-take, length-drop}
+use lib.Seq.{take-append-seam, drop-append-seam}
+use lib.Dec.{ltb, eqb, leb}
+use borrow.Author.Tests.{lt-ltb, le-ltb, ltb-true, ltb-false, eqb-true, eqb-false, eq-eqb, ne-eqb, le-leb, lt-leb, leb-true, leb-false}
+use Rattle.forest.specs.Lists.{insertAt, removeAt, sum, total, count, pad, parent, offset}
+use Rattle.forest.specs.Pairs.{Item}
+use Rattle.forest.specs.Rows.{Node, Row, node, size, front, nums, sizes, joined, line, itemsAt, Fill, least, dropRow, rekey, refresh}
+use Rattle.forest.specs.Trees.{numbers, dropAt, dropUp, freedUp, lost}
+use Rattle.forest.specs.Pools.{innerWords, pushAll}
+use Rattle.forest.proofs.ListLaws.{Test, is, isnt, test, tests, total-append, parent-lt, offset-lt, parent-start, length-removeAt, cons-eq, map-append}
+use Rattle.forest.proofs.RowLaws.{sum-sizes, length-line, length-items, fill-at}
+use Rattle.heal.proofs.HealRows
+use Rattle.heal.proofs.HealStack
+use Rattle.heal.proofs.HealMem
+use Rattle.heal.proofs.HealPath
+use Rattle.heal.proofs.HealStep
+use Rattle.heal.proofs.HealUp.{Lawful, Mended, Where, here, past, empty-up, heal-some, heal-none, dropUp-shape, freedUp-shape}
+use Rattle.heal.specs.States.{State, Ops, stored, healLevel, emptyNode, parentCut, newFront, fronted, removeAtCursor}
+use Rattle.heal.specs.Wounds.{Within, Wounded, alive, dead}
+
+-- Rows that are stacked up to first keys, brought up to date: the words are the same
+rekey-joined : (S : Row) → rekey (joined S) S ≡ S
+rekey-joined [] = refl
+rekey-joined (n ∷ S) = rw (take-append-seam (n .items) (joined S), drop-append-seam (n .items) (joined S), rekey-joined S)
+
+first-part : (zs rest ys : List Item) → 1 ≤ length zs → HealStack.Alike (zs ++ rest) ys → (take (length zs) ys ≡ HealRows.rekeyAt 0 (front ys) zs) × (drop (length zs) ys ≡ rest)
+first-part [] rest ys h a = absurd (omega arith)
+first-part (x ∷ zs) rest [] h a = absurd (let z = HealStack.alike-length a in omega arith)
+first-part (x ∷ zs) rest (y ∷ ys) h a =
+    let v : x .1 ∷ map HealStack.val (zs ++ rest) ≡ y .1 ∷ map HealStack.val ys = a .vals in
+    let e : x .1 ≡ y .1 = cc in
+    let r : zs ++ rest ≡ ys = a .rest in (
+      cons-eq (λ i. (y .0, sym e i)) (rw (← r) (take-append-seam zs rest)),
+      rw (← r) (drop-append-seam zs rest),
+    )
+
+-- a row whose items are given anew, the same up to the first key
+pub rekey-first : (S : Row) (ys : List Item) → HealStack.Some (sizes S) → HealStack.Alike (joined S) ys → rekey ys S ≡ HealRows.upd 0 (HealRows.rekeyAt 0 (front ys)) S
+rekey-first [] ys p a = refl
+rekey-first (n ∷ S) ys p a =
+    let z = first-part (n .items) (joined S) ys (p .0) a in
+    rw (z .0, z .1, rekey-joined S)
+
+pub refresh-holds : (R : Row) (Ss : List Row) (st : HealMem.Store) → HealStack.Stacked R Ss → HealMem.HoldsUp st Ss → HealMem.HoldsUp st (refresh R Ss)
+refresh-holds R [] st s h = tt
+refresh-holds R (S ∷ Ss) st s h =
+    let e = rekey-first S (line R) (HealStack.fill-some 4 8 (sizes S) (omega arith) (s .1)) (s .0) in
+    let k = front (line R) in
+    rw e (
+      HealMem.holds-same innerWords st S 0 (HealRows.rekeyAt 0 (front (line R))) (HealPath.inner-first (front (line R)) (itemsAt S 0)) (h .0),
+      refresh-holds (HealRows.upd 0 (HealRows.rekeyAt 0 (front (line R))) S) Ss st
+          (HealStack.stacked-line S (HealRows.upd 0 (HealRows.rekeyAt 0 (front (line R))) S) Ss
+          (HealStack.alike-sym (rw (HealRows.upd-line 0 (HealRows.rekeyAt 0 (front (line R))) S) (HealStack.alike-first _ (line S)))) (s .2)) (h .1),
+    )
+
+-- remove at a cursor, where the leaf keeps a pair or the tree has another: cut, key, heal
+module _ {enc : List Item → List ℕ} {cap low : ℕ} {leaf inner : Ops} (leaf-law : Lawful leaf enc cap low) (inner-law : Lawful inner innerWords 8 4) (key : List ℕ → ℕ) where
+  module _ (key-is : (xs : List Item) → 1 ≤ length xs → key (enc xs) ≡ front xs) (L : Row) (Rs : List Row) (i : ℕ) (s : State)
+      (b : i < sum (sizes L)) (fill : Fill low cap (sizes L)) (stacked : HealStack.Stacked L Rs) (once : HealMem.Once (nums L ++ numbers Rs))
+      (row : HealMem.Holds enc (s .st) L) (up : HealMem.HoldsUp (s .st) Rs)
+      (place : s .ps (length Rs) ≡ offset (sizes L) i) (path : HealPath.Path L (parent (sizes L) i) Rs (s .ns) (s .ps)) where
+    par-in : parent (sizes L) i < length L
+    par-in = rw (length-map L size) at (parent-lt (sizes L) i b)
+
+    off-in : offset (sizes L) i < length (itemsAt L (parent (sizes L) i))
+    off-in = rw (length-items L (parent (sizes L) i)) (offset-lt (sizes L) i b)
+
+    few : length (itemsAt L (parent (sizes L) i)) ≤ cap
+    few = rw (length-items L (parent (sizes L) i)) (fill-at low cap (sizes L) (parent (sizes L) i) fill)
+
+    name : s .ns (length Rs) ≡ HealRows.numAt L (parent (sizes L) i)
+    name = HealPath.path-node L (parent (sizes L) i) Rs (s .ns) (s .ps) path
+
+    words : s .st (s .ns (length Rs)) ≡ enc (itemsAt L (parent (sizes L) i))
+    words = ap (s .st) name ∙ HealMem.holds-at enc (s .st) L (parent (sizes L) i) par-in row
+
+    apart : HealMem.Apart (nums L) (numbers Rs)
+    apart = HealMem.once-append (nums L) (numbers Rs) once
+
+    abbrev C : Row
+    C = HealStep.cutRow i L
+
+    abbrev sB : State
+    sB = parentCut leaf s (length Rs)
+
+    keepsB : HealMem.Keeps (s .st) (sB .st) (nums L)
+    keepsB = HealMem.put-keeps (s .st) (s .ns (length Rs)) (leaf .cut (s .st (s .ns (length Rs))) (s .ps (length Rs))) (nums L) (rw name (HealMem.numAt-counts L (parent (sizes L) i) par-in))
+
+    upB : HealMem.HoldsUp (sB .st) Rs
+    upB = HealMem.up-keeps (s .st) (sB .st) (nums L) Rs keepsB apart up
+
+    sum-L : suc (length (removeAt (offset (sizes L) i) (itemsAt L (parent (sizes L) i)))) ≡ length (itemsAt L (parent (sizes L) i))
+    sum-L = length-removeAt (offset (sizes L) i) (itemsAt L (parent (sizes L) i)) off-in
+
+    -- other keys above, of the same shape
+    convert : (M : Row) (w : Bool) (Rs1 : List Row) (st : HealMem.Store) (s′ : State) → HealStack.SameShape Rs1 Rs → HealMem.Keeps (s .st) st (nums L ++ numbers Rs) →
+        Mended enc M w i L Rs1 (stored s st) s′ → Mended enc M w i L Rs s s′
+    convert M w Rs1 st s′ shape k m =
+        let ln = HealStep.shape-length shape in
+        record {
+          rows = m .rows;
+          shape = HealStack.same-trans (m .shape) (either w);
+          stacked = m .stacked;
+          row = m .row;
+          up = m .up;
+          keeps = λ x c. m .keeps x (rw (HealStep.shape-numbers shape) c) ∙ k x c;
+          zeros = λ x c d. m .zeros x (rw (HealStep.shape-numbers shape) c) d;
+          free = rw (← (freedUp-shape (parent (sizes L) i) shape)) (m .free);
+          deeper = λ l d. m .deeper l (rw ln d);
+          places = λ l d. m .places l (rw ln d);
+          stands = rw (← ln) (m .stands);
+        }
+      where
+        either : (w : Bool) → HealStack.SameShape (cond w (dropUp (parent (sizes L) i) Rs1) Rs1) (cond w (dropUp (parent (sizes L) i) Rs) Rs)
+        either true = dropUp-shape (parent (sizes L) i) shape
+        either false = shape
+
+    abbrev M : Row
+    M = dropRow cap (parent (sizes L) i) (offset (sizes L) i) L
+
+    abbrev k : ℕ
+    k = front (removeAt (offset (sizes L) i) (itemsAt L (parent (sizes L) i)))
+
+    abbrev st2 : HealMem.Store
+    st2 = HealPath.leftSet (sB .st) (s .ns) (s .ps) (length Rs) k
+
+    abbrev Rs1 : List Row
+    Rs1 = HealStack.setKey (parent (sizes L) i) k Rs
+
+    -- a pair is left in the leaf
+    keeps-some : 2 ≤ length (itemsAt L (parent (sizes L) i)) → Mended enc M (lost M L) i L Rs s (removeAtCursor leaf cap inner key s (length Rs))
+    keeps-some two =
+        let w : leaf .cut (s .st (s .ns (length Rs))) (s .ps (length Rs)) ≡ enc (removeAt (offset (sizes L) i) (itemsAt L (parent (sizes L) i))) =
+        rw (words, place) (leaf-law .cut-is (itemsAt L (parent (sizes L) i)) (offset (sizes L) i) off-in two few) in
+        let rowB : HealMem.Holds enc (sB .st) C =
+        rw name (HealMem.holds-upd enc (s .st) L (parent (sizes L) i) (removeAt (offset (sizes L) i)) (leaf .cut (s .st (HealRows.numAt L (parent (sizes L) i))) (s .ps (length Rs))) par-in (λ x. omega (arith, apart x)) (rw name at w) row) in
+        let wB : sB .st (s .ns (length Rs)) ≡ enc (removeAt (offset (sizes L) i) (itemsAt L (parent (sizes L) i))) =
+        HealMem.put-same (s .st) (s .ns (length Rs)) (leaf .cut (s .st (s .ns (length Rs))) (s .ps (length Rs))) ∙ w in
+        let xs = removeAt (offset (sizes L) i) (itemsAt L (parent (sizes L) i)) in
+        let some-xs : 1 ≤ length (removeAt (offset (sizes L) i) (itemsAt L (parent (sizes L) i))) = omega (arith, sum-L) in
+        let en : leaf .entries (sB .st (s .ns (length Rs))) ≡ length (removeAt (offset (sizes L) i) (itemsAt L (parent (sizes L) i))) = ap (leaf .entries) wB ∙ leaf-law .entries-is (removeAt (offset (sizes L) i) (itemsAt L (parent (sizes L) i))) some-xs in
+        let nz : eqb (leaf .entries (sB .st (s .ns (length Rs)))) 0 ≡ false = ne-eqb (leaf .entries (sB .st (s .ns (length Rs)))) 0 (omega arith) in
+        elim (test (eqb (offset (sizes L) i) 0)) [
+          | is e ↦
+              let kk : key (sB .st (s .ns (length Rs))) ≡ front (removeAt (offset (sizes L) i) (itemsAt L (parent (sizes L) i))) = ap key wB ∙ key-is (removeAt (offset (sizes L) i) (itemsAt L (parent (sizes L) i))) some-xs in
+              let f : fronted leaf cap inner key sB (length Rs) ≡ stored s st2 =
+              (let e2 : eqb (s .ps (length Rs)) 0 ≡ true = rw place e in simp (nz, e2) (ap (λ (x : ℕ). stored s (HealPath.leftSet (sB .st) (s .ns) (s .ps) (length Rs) x)) kk)) in
+              let keepsF : HealMem.Keeps (sB .st) st2 (numbers Rs) = HealPath.leftSet-keeps (sB .st) (s .ns) (s .ps) L (parent (sizes L) i) k Rs par-in stacked upB path in
+              let rowF : HealMem.Holds enc st2 C = HealMem.holds-keeps enc (sB .st) st2 (numbers Rs) C keepsF (λ x. rw (HealRows.upd-nums (parent (sizes L) i) (removeAt (offset (sizes L) i)) L) (omega (arith, apart x))) rowB in
+              let stackedC : HealStack.Stacked C Rs1 =
+              HealStack.setKey-stacked L C Rs (parent (sizes L) i) k par-in (HealStack.alike-same (sym (HealRows.upd-line (parent (sizes L) i) (removeAt (offset (sizes L) i)) L))) stacked in
+              let shape = HealStack.setKey-shape (parent (sizes L) i) k Rs in
+              let ln : length Rs1 ≡ length Rs = HealStep.shape-length shape in
+              rw f (convert M (lost M L) Rs1 st2 (healLevel leaf cap (emptyNode inner (length Rs)) (length Rs) (stored s st2)) shape
+              (λ x c.
+              let z = rw (total-append (λ z. Rattle.forest.specs.Lists.once (eqb x z)) (nums L) (numbers Rs)) at c in
+              keepsF x (omega arith) ∙ keepsB x (omega arith))
+              (subst (λ (n : ℕ). Mended enc M (lost M L) i L Rs1 (stored s st2) (healLevel leaf cap (emptyNode inner (length Rs)) n (stored s st2))) ln
+              (heal-some leaf-law (emptyNode inner (length Rs)) i L Rs1 (rw ln (empty-up inner-law (length Rs))) (stored s st2) b fill (rw (HealStep.shape-numbers shape) once)
+              (HealPath.leftSet-holds (sB .st) (s .ns) (s .ps) L (parent (sizes L) i) k Rs par-in stacked (λ x. omega (arith, apart x)) upB path)
+              (rw ln place) (HealStep.path-shape L L (parent (sizes L) i) (s .ns) (s .ps) refl (HealStack.same-sym shape) path) some-xs stackedC rowF)))
+          | isnt e ↦
+              let f : fronted leaf cap inner key sB (length Rs) ≡ sB = simp (nz, place, e) in
+              let stackedC : HealStack.Stacked C Rs =
+              HealStack.stacked-line L C Rs (HealStack.alike-same (sym (HealStack.line-keep (parent (sizes L) i) (removeAt (offset (sizes L) i)) L par-in (HealStep.front-cut (offset (sizes L) i) (itemsAt L (parent (sizes L) i)) (eqb-false _ _ e))))) stacked in
+              rw f (convert M (lost M L) Rs (sB .st) (healLevel leaf cap (emptyNode inner (length Rs)) (length Rs) sB) (HealStack.same-refl Rs)
+              (λ x c. keepsB x (let z = rw (total-append (λ z. Rattle.forest.specs.Lists.once (eqb x z)) (nums L) (numbers Rs)) at c in omega arith))
+              (heal-some leaf-law (emptyNode inner (length Rs)) i L Rs (empty-up inner-law (length Rs)) sB b fill once upB place path some-xs stackedC rowB))
+        ]
+
+    -- the leaf is empty, and the tree is not
+    keeps-none : length (itemsAt L (parent (sizes L) i)) ≡ 1 → 2 ≤ sum (sizes L) → Mended enc M (lost M L) i L Rs s (removeAtCursor leaf cap inner key s (length Rs))
+    keeps-none one two =
+        let w : leaf .cut (s .st (s .ns (length Rs))) (s .ps (length Rs)) ≡ pad 16 [] = rw words (leaf-law .cut-none (itemsAt L (parent (sizes L) i)) (s .ps (length Rs)) one) in
+        let wB : sB .st (s .ns (length Rs)) ≡ pad 16 [] = HealMem.put-same (s .st) (s .ns (length Rs)) (leaf .cut (s .st (s .ns (length Rs))) (s .ps (length Rs))) ∙ w in
+        let z : eqb (leaf .entries (sB .st (s .ns (length Rs)))) 0 ≡ true = rw (wB, leaf-law .entries-none) refl in
+        let f : fronted leaf cap inner key sB (length Rs) ≡ sB = simp z in
+        rw f (convert M (lost M L) Rs (sB .st) (healLevel leaf cap (emptyNode inner (length Rs)) (length Rs) sB) (HealStack.same-refl Rs)
+        (λ x c. keepsB x (let z = rw (total-append (λ z. Rattle.forest.specs.Lists.once (eqb x z)) (nums L) (numbers Rs)) at c in omega arith))
+        (heal-none leaf-law (emptyNode inner (length Rs)) i L Rs (empty-up inner-law (length Rs)) sB b fill once upB place path stacked (omega (arith, sum-L)) two wB
+        (HealMem.frame enc (s .st) (s .ns (length Rs)) (leaf .cut (s .st (s .ns (length Rs))) (s .ps (length Rs))) (removeAt (parent (sizes L) i) L)
+        (rw name (HealMem.gone enc L (parent (sizes L) i) par-in (λ x. omega (arith, apart x)))) (HealMem.holds-remove enc (s .st) L (parent (sizes L) i) row))))
+
+    -- REMOVE AT A CURSOR, unless the pair is the only one
+    pub removed : 2 ≤ sum (sizes L) → Mended enc M (lost M L) i L Rs s (removeAtCursor leaf cap inner key s (length Rs))
+    removed two = elim (test (ltb 1 (length (itemsAt L (parent (sizes L) i))))) [
+      | is e ↦ keeps-some (ltb-true _ _ e)
+      | isnt e ↦ keeps-none (let z = ltb-false 1 (length (itemsAt L (parent (sizes L) i))) e in omega (arith, off-in)) two
+    ]
+
+    -- heal_level may be called
+    front-some : 2 ≤ length (itemsAt L (parent (sizes L) i)) → (N : ℕ) → Within N (nums L ++ numbers Rs) (s .free) → Wounded enc cap low N (length Rs) (fronted leaf cap inner key sB (length Rs))
+    front-some two N within =
+        let w : leaf .cut (s .st (s .ns (length Rs))) (s .ps (length Rs)) ≡ enc (removeAt (offset (sizes L) i) (itemsAt L (parent (sizes L) i))) =
+        rw (words, place) (leaf-law .cut-is (itemsAt L (parent (sizes L) i)) (offset (sizes L) i) off-in two few) in
+        let rowB : HealMem.Holds enc (sB .st) C =
+        rw name (HealMem.holds-upd enc (s .st) L (parent (sizes L) i) (removeAt (offset (sizes L) i)) (leaf .cut (s .st (HealRows.numAt L (parent (sizes L) i))) (s .ps (length Rs))) par-in (λ x. omega (arith, apart x)) (rw name at w) row) in
+        let wB : sB .st (s .ns (length Rs)) ≡ enc (removeAt (offset (sizes L) i) (itemsAt L (parent (sizes L) i))) =
+        HealMem.put-same (s .st) (s .ns (length Rs)) (leaf .cut (s .st (s .ns (length Rs))) (s .ps (length Rs))) ∙ w in
+        let some-xs : 1 ≤ length (removeAt (offset (sizes L) i) (itemsAt L (parent (sizes L) i))) = omega (arith, sum-L) in
+        let en : leaf .entries (sB .st (s .ns (length Rs))) ≡ length (removeAt (offset (sizes L) i) (itemsAt L (parent (sizes L) i))) = ap (leaf .entries) wB ∙ leaf-law .entries-is (removeAt (offset (sizes L) i) (itemsAt L (parent (sizes L) i))) some-xs in
+        let nz : eqb (leaf .entries (sB .st (s .ns (length Rs)))) 0 ≡ false = ne-eqb (leaf .entries (sB .st (s .ns (length Rs)))) 0 (omega arith) in
+        elim (test (eqb (offset (sizes L) i) 0)) [
+          | is e ↦
+              let kk : key (sB .st (s .ns (length Rs))) ≡ front (removeAt (offset (sizes L) i) (itemsAt L (parent (sizes L) i))) = ap key wB ∙ key-is (removeAt (offset (sizes L) i) (itemsAt L (parent (sizes L) i))) some-xs in
+              let f : fronted leaf cap inner key sB (length Rs) ≡ stored s st2 =
+              (let e2 : eqb (s .ps (length Rs)) 0 ≡ true = rw place e in simp (nz, e2) (ap (λ (x : ℕ). stored s (HealPath.leftSet (sB .st) (s .ns) (s .ps) (length Rs) x)) kk)) in
+              let keepsF : HealMem.Keeps (sB .st) st2 (numbers Rs) = HealPath.leftSet-keeps (sB .st) (s .ns) (s .ps) L (parent (sizes L) i) k Rs par-in stacked upB path in
+              let rowF : HealMem.Holds enc st2 C = HealMem.holds-keeps enc (sB .st) st2 (numbers Rs) C keepsF (λ x. rw (HealRows.upd-nums (parent (sizes L) i) (removeAt (offset (sizes L) i)) L) (omega (arith, apart x))) rowB in
+              let stackedC : HealStack.Stacked C Rs1 =
+              HealStack.setKey-stacked L C Rs (parent (sizes L) i) k par-in (HealStack.alike-same (sym (HealRows.upd-line (parent (sizes L) i) (removeAt (offset (sizes L) i)) L))) stacked in
+              let shape = HealStack.setKey-shape (parent (sizes L) i) k Rs in
+              let ln : length Rs1 ≡ length Rs = HealStep.shape-length shape in
+              rw f (record {
+                row = L;
+                at = i;
+                rows = Rs1;
+                level = ln;
+                inside = b;
+                fill = fill;
+                within = rw (HealStep.shape-numbers shape) within;
+                up = HealPath.leftSet-holds (sB .st) (s .ns) (s .ps) L (parent (sizes L) i) k Rs par-in stacked (λ x. omega (arith, apart x)) upB path;
+                place = rw ln place;
+                path = HealStep.path-shape L L (parent (sizes L) i) (s .ns) (s .ps) refl (HealStack.same-sym shape) path;
+                left = alive two stackedC rowF;
+              })
+          | isnt e ↦
+              let f : fronted leaf cap inner key sB (length Rs) ≡ sB = simp (nz, place, e) in
+              let stackedC : HealStack.Stacked C Rs =
+              HealStack.stacked-line L C Rs (HealStack.alike-same (sym (HealStack.line-keep (parent (sizes L) i) (removeAt (offset (sizes L) i)) L par-in (HealStep.front-cut (offset (sizes L) i) (itemsAt L (parent (sizes L) i)) (eqb-false _ _ e))))) stacked in
+              rw f (record { row = L; at = i; rows = Rs; level = refl; inside = b; fill = fill; within = within; up = upB; place = place; path = path; left = alive two stackedC rowB })
+        ]
+
+    front-none : length (itemsAt L (parent (sizes L) i)) ≡ 1 → 2 ≤ sum (sizes L) → (N : ℕ) → Within N (nums L ++ numbers Rs) (s .free) → Wounded enc cap low N (length Rs) (fronted leaf cap inner key sB (length Rs))
+    front-none one two N within =
+        let w : leaf .cut (s .st (s .ns (length Rs))) (s .ps (length Rs)) ≡ pad 16 [] = rw words (leaf-law .cut-none (itemsAt L (parent (sizes L) i)) (s .ps (length Rs)) one) in
+        let wB : sB .st (s .ns (length Rs)) ≡ pad 16 [] = HealMem.put-same (s .st) (s .ns (length Rs)) (leaf .cut (s .st (s .ns (length Rs))) (s .ps (length Rs))) ∙ w in
+        let z : eqb (leaf .entries (sB .st (s .ns (length Rs)))) 0 ≡ true = rw (wB, leaf-law .entries-none) refl in
+        let f : fronted leaf cap inner key sB (length Rs) ≡ sB = simp z in
+        rw f (record {
+          row = L;
+          at = i;
+          rows = Rs;
+          level = refl;
+          inside = b;
+          fill = fill;
+          within = within;
+          up = upB;
+          place = place;
+          path = path;
+          left = dead one stacked two wB
+              (HealMem.frame enc (s .st) (s .ns (length Rs)) (leaf .cut (s .st (s .ns (length Rs))) (s .ps (length Rs))) (removeAt (parent (sizes L) i) L)
+              (rw name (HealMem.gone enc L (parent (sizes L) i) par-in (λ x. omega (arith, apart x)))) (HealMem.holds-remove enc (s .st) L (parent (sizes L) i) row));
+        })
+
+    pub front-wounded : 2 ≤ sum (sizes L) → (N : ℕ) → Within N (nums L ++ numbers Rs) (s .free) → Wounded enc cap low N (length Rs) (fronted leaf cap inner key sB (length Rs))
+    front-wounded two N within = elim (test (ltb 1 (length (itemsAt L (parent (sizes L) i))))) [
+      | is e ↦ front-some (ltb-true _ _ e) N within
+      | isnt e ↦ front-none (let z = ltb-false 1 (length (itemsAt L (parent (sizes L) i))) e in omega (arith, off-in)) two N within
+    ]
+
+    -- the leaf's words are those of the cut
+    pub front-words : (fronted leaf cap inner key sB (length Rs)) .st (s .ns (length Rs)) ≡ sB .st (s .ns (length Rs))
+    front-words = elim (test (eqb (leaf .entries (sB .st (s .ns (length Rs)))) 0)) [
+      | is e ↦ simp e
+      | isnt e ↦ elim (test (eqb (s .ps (length Rs)) 0)) [
+        | isnt f ↦ simp (e, f)
+        | is f ↦ simp (e, f)
+            (HealPath.leftSet-keeps (sB .st) (s .ns) (s .ps) L (parent (sizes L) i) (key (sB .st (s .ns (length Rs)))) Rs par-in stacked upB path (s .ns (length Rs))
+            (rw name (omega (arith, apart (HealRows.numAt L (parent (sizes L) i)), HealMem.numAt-counts L (parent (sizes L) i) par-in))))
+      ]
+    ]
+
+    pub front-path : ((fronted leaf cap inner key sB (length Rs)) .ns ≡ s .ns) × ((fronted leaf cap inner key sB (length Rs)) .ps ≡ s .ps)
+    front-path = elim (test (eqb (leaf .entries (sB .st (s .ns (length Rs)))) 0)) [
+      | is e ↦ simp e (refl, refl)
+      | isnt e ↦ elim (test (eqb (s .ps (length Rs)) 0)) [ is f ↦ simp (e, f) (refl, refl) | isnt f ↦ simp (e, f) (refl, refl) ]
+    ]
+
+-- the words are those of the rows of the definition
+pub exact : {enc : List Item → List ℕ} {M : Row} {w : Bool} {i : ℕ} {L : Row} {Rs : List Row} {s s′ : State} → Mended enc M w i L Rs s s′ →
+    HealMem.HoldsUp (s′ .st) (refresh M (cond w (dropUp (parent (sizes L) i) Rs) Rs))
+exact {M} {s′} m = rw (← (HealStack.refresh-shape M (m .shape))) (refresh-holds M (m .rows) (s′ .st) (m .stacked) (m .up))

@@ -1,0 +1,26 @@
+use mathlib.Core.Path.{refl}
+use Rattle.heal.proofs.NextLaws
+use borrow.Author.Needs.{needs}
+use Rattle.heal.proofs.settle.Statement.{statement}
+use Rattle.heal.proofs.settle.Tie as tie
+use Rattle.heal.proofs.settle.Reads as reads
+use Rattle.heal.proofs.settle.Lts as lts
+
+-- src/lib.rt:181:9
+mul-d : tie.Need-mul-d
+mul-d c = search needs
+
+-- src/lib.rt:181:9
+element-write-d : tie.Need-element-write-d
+element-write-d c = search needs
+
+-- src/lib.rt:175:1
+returns : tie.Need-returns
+returns c = NextLaws.settles-some (c .before .args .near) (c .before .pre) (c .if1 .taken) refl refl refl refl
+
+-- src/lib.rt:175:1
+returns-2 : tie.Need-returns-2
+returns-2 c = NextLaws.settles-none (c .before .args .near) (c .if1 .left) refl refl refl refl
+
+pub settle-spec : {M : Type 1} → statement M
+settle-spec = tie.close (tie.spec mul-d element-write-d returns returns-2)

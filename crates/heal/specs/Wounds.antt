@@ -1,0 +1,99 @@
+-- DEFINITIONS. Rows in the middle of healing: stacked up to the first key of a row, which no word stores; held by a store; with a path through them
+use mathlib.Core.Path.{_≡_}
+use mathlib.Core.List.{List, [], _∷_, _++_, map}
+use mathlib.Core.Bool.{_&&_}
+use Prim.Native.Nat.{ℕ, zero, suc, _+_, _≤_, _<_}
+use lib.ListN.{length, drop}
+use lib.Dec.{leb}
+use Rattle.forest.specs.Sizes.{innerLeast, innerCap}
+use Rattle.forest.specs.Lists.{removeAt, sum, once, count, parent, offset}
+use Rattle.forest.specs.Pairs.{Item}
+use Rattle.forest.specs.Rows.{Node, Row, node, front, nums, sizes, joined, line, itemsAt, Fill}
+use Rattle.forest.specs.Trees.{numbers}
+use Rattle.forest.specs.Pools.{innerWords}
+use Rattle.pool.specs.Stores.{Store, noWords}
+use Rattle.heal.specs.States.{State}
+
+-- the items of the j-th node become f of them
+abbrev pub upd : ℕ → (List Item → List Item) → Row → Row
+upd j f [] = []
+upd zero f (n ∷ R) = node (n .num) (f (n .items)) ∷ R
+upd (suc j) f (n ∷ R) = n ∷ upd j f R
+
+abbrev pub numAt : Row → ℕ → ℕ
+numAt [] j = 0
+numAt (n ∷ R) zero = n .num
+numAt (n ∷ R) (suc j) = numAt R j
+
+-- the same items, up to the key of the first
+abbrev pub val : Item → ℕ
+val x = x .1
+
+pub record Alike (xs ys : List Item) : Type 0 where
+  pub vals : map val xs ≡ map val ys
+  pub rest : drop 1 xs ≡ drop 1 ys
+
+-- rows stacked up to first keys
+abbrev pub Stacked : Row → List Row → Type 0
+Stacked R [] = length R ≡ 1
+Stacked R (S ∷ Ss) = Alike (joined S) (line R) × Fill innerLeast innerCap (sizes S) × Stacked S Ss
+
+-- the store has the words of every node of the row, and of the rows above
+abbrev pub Holds : (List Item → List ℕ) → Store → Row → Type 0
+Holds enc st [] = Unit {0}
+Holds enc st (n ∷ R) = (st (n .num) ≡ enc (n .items)) × Holds enc st R
+
+abbrev pub HoldsUp : Store → List Row → Type 0
+HoldsUp st [] = Unit {0}
+HoldsUp st (S ∷ Ss) = Holds innerWords st S × HoldsUp st Ss
+
+-- the path to the j-th node of R: ns are the nodes, ps the places
+abbrev pub Path : Row → ℕ → List Row → (ℕ → ℕ) → (ℕ → ℕ) → Type 0
+Path R j [] ns ps = ns 0 ≡ numAt R j
+Path R j (S ∷ Ss) ns ps = (ns (suc (length Ss)) ≡ numAt R j) × (ps (length Ss) ≡ offset (sizes S) j) × Path S (parent (sizes S) j) Ss ns ps
+
+-- each number is one of 1..N and stands once among xs and the free ones
+abbrev pub Within : ℕ → List ℕ → List ℕ → Type 0
+Within N xs free = (x : ℕ) → count x xs + count x free ≤ once (leb 1 x && leb x N)
+
+-- R has one node too many, the j-th: R′ is the row without it. Both stand under the rows above R
+pub record Gap (R′ R : Row) (j : ℕ) : Type 0 where
+  pub alike : Alike (removeAt j (line R)) (line R′)
+  pub fronts : 0 < j → suc j < length R → front (itemsAt R j) ≡ front (itemsAt R (suc j))
+
+-- the row whose node has lost item i
+abbrev pub cutRow : ℕ → Row → Row
+cutRow i S = upd (parent (sizes S) i) (removeAt (offset (sizes S) i)) S
+
+-- empty_node at level l: the j-th node of a row goes; `below` is the row without it, the rows above still name it
+pub record Emptied (N l : ℕ) (s : State) : Type 0 where
+  pub row : Row
+  pub below : Row
+  pub at : ℕ
+  pub rows : List Row
+  pub level : length rows ≡ l
+  pub gap : Gap below row at
+  pub inside : at < length row
+  pub two : 2 ≤ length row
+  pub stacked : Stacked row rows
+  pub within : Within N (numAt row at ∷ numbers rows) (s .free)
+  pub up : HoldsUp (s .st) rows
+  pub path : Path row at rows (s .ns) (s .ps)
+
+-- heal_level at level l: a node has lost item i of its row S, and has some left or none
+pub data Left (enc : List Item → List ℕ) (S : Row) (i : ℕ) (Ss : List Row) (s : State) : Type 0 where
+  alive : 2 ≤ length (itemsAt S (parent (sizes S) i)) → Stacked (cutRow i S) Ss → Holds enc (s .st) (cutRow i S) → Left enc S i Ss s
+  dead : length (itemsAt S (parent (sizes S) i)) ≡ 1 → Stacked S Ss → 2 ≤ sum (sizes S) → s .st (s .ns (length Ss)) ≡ noWords → Holds enc (s .st) (removeAt (parent (sizes S) i) S) → Left enc S i Ss s
+
+pub record Wounded (enc : List Item → List ℕ) (cap low N l : ℕ) (s : State) : Type 0 where
+  pub row : Row
+  pub at : ℕ
+  pub rows : List Row
+  pub level : length rows ≡ l
+  pub inside : at < sum (sizes row)
+  pub fill : Fill low cap (sizes row)
+  pub within : Within N (nums row ++ numbers rows) (s .free)
+  pub up : HoldsUp (s .st) rows
+  pub place : s .ps (length rows) ≡ offset (sizes row) at
+  pub path : Path row (parent (sizes row) at) rows (s .ns) (s .ps)
+  pub left : Left enc row at rows s

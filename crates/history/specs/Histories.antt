@@ -1,0 +1,53 @@
+-- DEFINITIONS. Histories: public calls one after another on the same words, each of which keeps its promise. The three demands are said of these
+use mathlib.Core.Path.{_≡_}
+use mathlib.Core.List.{List, [], _∷_}
+use mathlib.Core.Bool.{Bool, true, false, cond, _&&_}
+use Prim.Native.Nat.{ℕ}
+use lib.Dec.{eqb}
+use Rattle.forest.specs.declared.Answer.{Answer}
+use Rattle.forest.specs.declared.Cursor.{Cursor}
+use Rattle.forest.specs.Pools.{Pool, WellFormed, encode, Call, target, treeOf, formatWords, shape, AllDone}
+use Rattle.forest.specs.Cursors.{Move}
+use Rattle.forest.specs.Promises.{Calls, Moves}
+
+-- the calls get, put and remove made in this order: the words before and after, and the answers
+pub data Ran (m : ℕ) : List Call → List ℕ → List ℕ → List Answer → Type 0 where
+  none : {ws : List ℕ} → Ran m [] ws ws []
+  one : {c : Call} {cs : List Call} {ws us vs : List ℕ} {r : Answer} {rs : List Answer} → Calls m c ws us r → Ran m cs us vs rs → Ran m (c ∷ cs) ws vs (r ∷ rs)
+
+-- is r the answer to a call of tree t that was not refused
+abbrev pub counts : ℕ → Call → Answer → Bool
+counts t c r = eqb (target c) t && eqb (r .number) 0
+
+-- the calls of tree t, those that were refused struck out
+abbrev pub ownOf : ℕ → List Call → List Answer → List Call
+ownOf t [] rs = []
+ownOf t (c ∷ cs) [] = []
+ownOf t (c ∷ cs) (r ∷ rs) = cond (counts t c r) (c ∷ ownOf t cs rs) (ownOf t cs rs)
+
+-- and the answers to these
+abbrev pub answersOf : ℕ → List Call → List Answer → List Answer
+answersOf t [] rs = []
+answersOf t (c ∷ cs) [] = []
+answersOf t (c ∷ cs) (r ∷ rs) = cond (counts t c r) (r ∷ answersOf t cs rs) (answersOf t cs rs)
+
+-- tree t is the same in the words vs and us: levels, node contents and pairs
+abbrev pub SameTree : ℕ → ℕ → List ℕ → List ℕ → Type 0
+SameTree m t vs us = (p q : Pool) → WellFormed m p → encode p ≡ vs → WellFormed m q → encode q ≡ us → shape (treeOf p t) ≡ shape (treeOf q t)
+
+-- Demand 3. The history cs made vs of the words ws, with answers rs. The calls of tree t that were not refused, made alone on ws, in the same order:
+-- they can be made, and however they are made none is refused, the answers are the same, and the tree is the same
+pub record Independent (m t : ℕ) (ws : List ℕ) (cs : List Call) (vs : List ℕ) (rs : List Answer) : Type 0 where
+  pub words : List ℕ
+  pub answers : List Answer
+  pub alone : Ran m (ownOf t cs rs) ws words answers
+  pub same-answers : (us : List ℕ) (bs : List Answer) → Ran m (ownOf t cs rs) ws us bs → bs ≡ answersOf t cs rs
+  pub all-done : AllDone (answersOf t cs rs)
+  pub same-tree : (us : List ℕ) (bs : List Answer) → Ran m (ownOf t cs rs) ws us bs → SameTree m t vs us
+
+-- any public calls that may write, in any order: the words before and after
+pub data Went (m : ℕ) : List ℕ → List ℕ → Type 0 where
+  stays : {ws : List ℕ} → Went m ws ws
+  formats : (T N : ℕ) {ws us vs : List ℕ} → us ≡ formatWords T N ws → Went m us vs → Went m ws vs
+  calls : {c : Call} {ws us vs : List ℕ} {r : Answer} → Calls m c ws us r → Went m us vs → Went m ws vs
+  moves : {v : Move} {c d : Cursor} {ws us vs : List ℕ} {r : Answer} → Moves m v c ws us r d → Went m us vs → Went m ws vs

@@ -1,0 +1,4 @@
+pub mod Values
+pub mod Gating
+pub mod Promising
+pub mod Removing

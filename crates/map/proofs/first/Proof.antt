@@ -1,0 +1,26 @@
+use Rattle.forest.specs.Cursors.{to-first}
+use Rattle.forest.specs.declared.Refusal.the-variants.{Unsound}
+use borrow.Author.Tests.{not-true, not-false}
+use Rattle.map.proofs.Gating.{check-no}
+use Rattle.map.proofs.Promising.{closed-moves}
+use borrow.Author.Needs.{needs}
+use Rattle.map.proofs.first.Statement.{statement}
+use Rattle.map.proofs.first.Tie as tie
+
+check-requires : tie.Need-check-requires
+check-requires c κs = search needs
+
+returns : tie.Need-returns
+returns c =
+    let start = c .before .before .before in
+    let a = start .args in
+    closed-moves to-first (a .at) (a .ws .now) Unsound (check-no (a .ws .now) _ (c .before .check .ensures) (not-true _ (c .if1 .taken)))
+
+sound-first-requires : tie.Need-sound-first-requires
+sound-first-requires c κs = c .before .check .ensures .yes (not-false _ (c .if1 .left))
+
+returns-2 : tie.Need-returns-2
+returns-2 c = search needs
+
+pub first-spec : {M : Type 1} → statement M
+first-spec = tie.close (tie.spec check-requires returns sound-first-requires returns-2)

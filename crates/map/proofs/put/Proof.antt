@@ -1,0 +1,34 @@
+use Rattle.forest.specs.Pools.{put}
+use Rattle.forest.specs.declared.Refusal.the-variants.{Unsound}
+use borrow.Author.Tests.{not-true, not-false}
+use Rattle.map.proofs.Gating.{check-no}
+use Rattle.map.proofs.Promising.{closed-calls}
+use borrow.Author.Needs.{needs}
+use Rattle.map.proofs.put.Statement.{statement}
+use Rattle.map.proofs.put.Tie as tie
+
+check-requires : tie.Need-check-requires
+check-requires c κs = search needs
+
+same-length : tie.Need-same-length
+same-length c = search needs
+
+returns : tie.Need-returns
+returns c =
+    let start = c .before .before .before .before in
+    let a = start .args in
+    closed-calls (put (a .tree) (a .key) (a .value)) (a .ws .now) Unsound (check-no (a .ws .now) _ (c .before .check .ensures) (not-true _ (c .if1 .taken)))
+
+sound-put-requires : tie.Need-sound-put-requires
+sound-put-requires c κs = c .before .before .check .ensures .yes (not-false _ (c .before .if1 .left))
+
+same-length-2 : tie.Need-same-length-2
+same-length-2 c = search needs
+
+returns-2 : tie.Need-returns-2
+returns-2 c = search needs
+
+pub put-spec : {M : Type 1} → statement M
+put-spec =
+    tie.close
+    (tie.spec check-requires same-length returns sound-put-requires same-length-2 returns-2)

@@ -1,0 +1,67 @@
+use mathlib.Core.Path.{refl}
+use Rattle.forest.specs.Cursors.{to-remove}
+use Rattle.forest.specs.declared.Refusal.the-variants.{Unsound}
+use borrow.Author.Tests.{not-true, not-false}
+use Rattle.map.proofs.Gating.{check-no, admit-stood}
+use Rattle.map.proofs.Promising.{closed-moves, barred-moves}
+use borrow.Author.Needs.{needs}
+use Rattle.map.proofs.remove_at.Statement.{statement}
+use Rattle.map.proofs.remove_at.Tie as tie
+
+check-requires : tie.Need-check-requires
+check-requires c κs = search needs
+
+same-length : tie.Need-same-length
+same-length c = search needs
+
+returns : tie.Need-returns
+returns c =
+    let start = c .before .before .before .before in
+    let a = start .args in
+    closed-moves to-remove (a .at) (a .ws .now) Unsound (check-no (a .ws .now) _ (c .before .check .ensures) (not-true _ (c .if1 .taken)))
+
+admit-requires : tie.Need-admit-requires
+admit-requires c κs = c .before .before .check .ensures .yes (not-false _ (c .before .if1 .left))
+
+enum-known-why : tie.Need-enum-known-why
+enum-known-why c = search needs
+
+enum-known-t : tie.Need-enum-known-t
+enum-known-t c = search needs
+
+sound-remove-at-requires : tie.Need-sound-remove-at-requires
+sound-remove-at-requires c κs =
+    let start = c .before .before .before .before .before .before .before .before .before .before in
+    let a = start .args in
+    admit-stood (a .ws .now) (a .at) _ (c .before .before .before .before .admit .ensures) (c .before .before .t .given .0 .0) (cc)
+
+same-length-2 : tie.Need-same-length-2
+same-length-2 c = search needs
+
+returns-2 : tie.Need-returns-2
+returns-2 c =
+    let start = c .before .before .before .before .before .before .before .before .before in
+    let a = start .args in
+    barred-moves to-remove (a .at) (a .ws .now) (c .before .why .given .0 .0) refl (c .before .before .before .admit .ensures .shut (c .before .why .given .0 .0) (cc))
+
+same-length-3 : tie.Need-same-length-3
+same-length-3 c = search needs
+
+returns-3 : tie.Need-returns-3
+returns-3 c = search needs
+
+pub remove-at-spec : {M : Type 1} → statement M
+remove-at-spec =
+    tie.close
+    (tie.spec
+    check-requires
+    same-length
+    returns
+    admit-requires
+    enum-known-why
+    enum-known-t
+    sound-remove-at-requires
+    same-length-2
+    returns-2
+    same-length-3
+    returns-3)

@@ -1,0 +1,87 @@
+-- PROOFS. A cursor and its path: a level more, fewer levels, what a level holds
+use mathlib.Core.Path.{_≡_, refl, sym, ap, _∙_}
+use mathlib.Core.List.{List, [], _∷_, _++_, map, append-assoc, append-nil}
+use Prim.Native.Nat.{ℕ, zero, suc, _+_, _-_, _≤_, _<_}
+use native.Mathlib.Omega.{arith}
+use lib.ListN.{length, take, getD, set, length-append, length-map, List·getD-map}
+use lib.Seq.{length-take-le}
+use Rattle.forest.specs.Sizes.{mostLevels}
+use Rattle.forest.specs.Lists.{pad}
+use Rattle.forest.specs.declared.Cursor.{Cursor}
+use Rattle.forest.specs.Cursors.{Path, cursorAt}
+use Rattle.forest.proofs.ListLaws.{map-take}
+use Rattle.path.specs.Ways.{Extends}
+use Rattle.path.specs.Levels.{pushed, cutAt}
+use Rattle.path.proofs.NodeWords.{getD-pad}
+
+module _ (f : ℕ × ℕ → ℕ) where
+  set-pad : (m : ℕ) (path : Path) (q : ℕ × ℕ) → length path < m → set (pad m (map f path)) (length path) (f q) ≡ pad m (map f (path ++ q ∷ []))
+  set-pad zero path q h = absurd (omega arith)
+  set-pad (suc m) [] q h = refl
+  set-pad (suc m) (x ∷ path) q h = ap (f x ∷_) (set-pad m path q (omega arith))
+
+  cut-pad : (path : Path) (l : ℕ) → l ≤ length path → length path ≤ 16 → pad mostLevels (take l (pad mostLevels (map f path))) ≡ pad mostLevels (map f (take l path))
+  cut-pad path l h k = ap (pad mostLevels) (take-pad mostLevels (map f path) l (rw length-map h) (rw length-map k) ∙ sym (map-take f l path))
+    where
+      take-pad : (n : ℕ) (xs : List ℕ) (i : ℕ) → i ≤ length xs → length xs ≤ n → take i (pad n xs) ≡ take i xs
+      take-pad n xs zero a b = refl
+      take-pad n [] (suc i) a b = absurd (omega arith)
+      take-pad zero (x ∷ xs) (suc i) a b = absurd (omega arith)
+      take-pad (suc n) (x ∷ xs) (suc i) a b = ap (x ∷_) (take-pad n xs i (omega arith) (omega arith))
+
+pub push-at : (t : ℕ) (path : Path) (n p : ℕ) → length path < 16 → pushed (cursorAt t path) n p ≡ cursorAt t (path ++ (n, p) ∷ [])
+unfolding pushed
+push-at t path n p h =
+    let e : length path + 1 ≡ length (path ++ (n, p) ∷ []) = sym (length-append path ((n, p) ∷ [])) in
+    let f = set-pad (λ q. q .0) mostLevels path (n, p) h in
+    let g = set-pad (λ q. q .1) mostLevels path (n, p) h in
+    λ i. record { tree = t; size = e i; nodes = f i; places = g i }
+
+pub cut-at : (t : ℕ) (path : Path) (l : ℕ) → l ≤ length path → length path ≤ 16 → cutAt (cursorAt t path) l ≡ cursorAt t (take l path)
+unfolding cutAt
+cut-at t path l h k =
+    let e : l ≡ length (take l path) = sym (length-take-le l path h) in
+    let f = cut-pad (λ q. q .0) path l h k in
+    let g = cut-pad (λ q. q .1) path l h k in
+    λ i. record { tree = t; size = e i; nodes = f i; places = g i }
+
+-- what stands at a level
+pub node-at : (t : ℕ) (path : Path) (l : ℕ) → l < 16 → getD ((cursorAt t path) .nodes) l 0 ≡ (getD path l (0, 0)) .0
+node-at t path l h = getD-pad mostLevels (map (λ (q : ℕ × ℕ). q .0) path) l h ∙ List·getD-map (λ (q : ℕ × ℕ). q .0) path l (0, 0)
+
+pub place-at : (t : ℕ) (path : Path) (l : ℕ) → l < 16 → getD ((cursorAt t path) .places) l 0 ≡ (getD path l (0, 0)) .1
+place-at t path l h = getD-pad mostLevels (map (λ (q : ℕ × ℕ). q .1) path) l h ∙ List·getD-map (λ (q : ℕ × ℕ). q .1) path l (0, 0)
+
+-- the front of a list, one word more
+pub front-more : (n : ℕ) (xs : List ℕ) (i : ℕ) → i < n → i < length xs → set (pad n (take i xs)) i (getD xs i 0) ≡ pad n (take (suc i) xs)
+front-more zero xs i h k = absurd (omega arith)
+front-more (suc n) [] i h k = absurd (omega arith)
+front-more (suc n) (x ∷ xs) zero h k = refl
+front-more (suc n) (x ∷ xs) (suc i) h k = ap (x ∷_) (front-more n xs i (omega arith) (omega arith))
+
+-- Levels put below
+
+pub extends-none : (c : Cursor) → Extends c c []
+extends-none c = record { run = λ path e. e ∙ ap (cursorAt (c .tree)) (sym (append-nil path)) }
+
+push-run : (c : Cursor) (n p : ℕ) (path : Path) → c .size < 16 → c ≡ cursorAt (c .tree) path → pushed c n p ≡ cursorAt (c .tree) (path ++ (n, p) ∷ [])
+push-run c n p path h e =
+    let s : c .size ≡ length path = ap (λ (d : Cursor). d .size) e in
+    ap (λ (d : Cursor). pushed d n p) e ∙ push-at (c .tree) path n p (omega arith)
+
+pub extends-one : (c : Cursor) (n p : ℕ) → c .size < 16 → Extends c (pushed c n p) ((n, p) ∷ [])
+extends-one c n p h = record { run = λ path e. push-run c n p path h e }
+
+pub extends-more : (c r : Cursor) (n p : ℕ) (more : Path) → c .size < 16 → Extends (pushed c n p) r more → Extends c r ((n, p) ∷ more)
+unfolding pushed
+extends-more c r n p more h x = record {
+  run = λ path e. x .run (path ++ (n, p) ∷ []) (push-run c n p path h e) ∙ ap (cursorAt (c .tree)) (append-assoc path ((n, p) ∷ []) more);
+}
+
+pub pushed-size : (c : Cursor) (n p : ℕ) → (pushed c n p) .size ≡ c .size + 1
+unfolding pushed
+pushed-size c n p = refl
+
+pub cut-size : (c : Cursor) (l : ℕ) → (cutAt c l) .size ≡ l
+unfolding cutAt
+cut-size c l = refl

@@ -1,0 +1,13 @@
+pub mod NodeWords
+pub mod Laid
+pub mod Downward
+pub mod CursorWords
+pub mod Steps
+pub mod Roots
+pub mod Seats
+pub mod Running
+pub mod Sideways
+pub mod Branches
+pub mod Neighbours
+pub mod Moving
+pub mod Looking

@@ -1,0 +1,20 @@
+use Rattle.path.specs.Levels.{cutAt}
+use borrow.Author.Needs.{needs}
+use Rattle.path.proofs.cut.Statement.{statement}
+use Rattle.path.proofs.cut.Tie as tie
+
+cast-t5 : tie.Need-cast-t5
+cast-t5 c = search needs
+
+front-requires : tie.Need-front-requires
+front-requires c κs = search needs
+
+front-requires-2 : tie.Need-front-requires-2
+front-requires-2 c κs = search needs
+
+returns : tie.Need-returns
+unfolding cutAt
+returns c = cc
+
+pub cut-spec : {M : Type 1} → statement M
+cut-spec = tie.close (tie.spec cast-t5 front-requires front-requires-2 returns)

@@ -1,0 +1,95 @@
+use Prim.Native.Nat.{_-_}
+use native.Mathlib.Omega.{arith}
+use lib.ListN.{length-take}
+use Rattle.path.proofs.Steps.{turns-key, turns-first, turns-last}
+use borrow.Author.Needs.{needs}
+use Rattle.path.proofs.turn.Statement.{statement}
+use Rattle.path.proofs.turn.Tie as tie
+
+mul-s : tie.Need-mul-s
+mul-s c = search needs
+
+shared-slice-read-s : tie.Need-shared-slice-read-s
+shared-slice-read-s c = search needs
+
+sub-s : tie.Need-sub-s
+sub-s c = search needs
+
+cast-s : tie.Need-cast-s
+cast-s c = search needs
+
+enum-known-way : tie.Need-enum-known-way
+enum-known-way c = search needs
+
+add-search : tie.Need-add-search
+add-search c = search needs
+
+add-search-2 : tie.Need-add-search-2
+add-search-2 c = search needs
+
+add-search-3 : tie.Need-add-search-3
+add-search-3 c = search needs
+
+mul-search : tie.Need-mul-search
+mul-search c = search needs
+
+sub-search : tie.Need-sub-search
+sub-search c = search needs
+
+part-search-start : tie.Need-part-search-start
+part-search-start c = search needs
+
+part-search-end : tie.Need-part-search-end
+part-search-end c = search needs
+
+cast-search : tie.Need-cast-search
+cast-search c = search needs
+
+add-search-4 : tie.Need-add-search-4
+add-search-4 c = search needs
+
+search-requires : tie.Need-search-requires
+search-requires c κs = search needs
+
+enum-told : tie.Need-enum-told
+enum-told c = search needs
+
+enum-told-2 : tie.Need-enum-told-2
+enum-told-2 c = search needs
+
+returns : tie.Need-returns
+returns c =
+    let start = c .before .before .before .before .before .before .before in
+    let e = turns-key (start .args .ws .now) (start .args .b) _ _ (start .pre .1 .1) (c .search .ensures .0) in
+    (cc, omega (arith, simp length-take at (c .search .ensures .1)))
+
+returns-2 : tie.Need-returns-2
+returns-2 c = (cc (turns-first (c .before .before .before .before .args .ws .now) (c .before .before .before .before .args .b)), omega arith)
+
+returns-3 : tie.Need-returns-3
+returns-3 c = (cc (turns-last (c .before .before .before .before .args .ws .now) (c .before .before .before .before .args .b)), omega arith)
+
+pub turn-spec : {M : Type 1} → statement M
+turn-spec =
+    tie.close
+    (tie.spec
+    mul-s
+    shared-slice-read-s
+    sub-s
+    cast-s
+    enum-known-way
+    add-search
+    add-search-2
+    add-search-3
+    mul-search
+    sub-search
+    part-search-start
+    part-search-end
+    cast-search
+    add-search-4
+    search-requires
+    enum-told
+    enum-told-2
+    returns
+    returns-2
+    returns-3)

@@ -1,0 +1,68 @@
+-- DEFINITIONS. Going down in the words, from a node to a leaf: by a key, by first children, by last children
+use mathlib.Core.Path.{_≡_}
+use mathlib.Core.List.{List, [], _∷_, _++_}
+use mathlib.Core.Bool.{cond}
+use Prim.Native.Nat.{ℕ, zero, suc, _+_, _-_, _*_, _≤_, _<_}
+use lib.ListN.{length, take, drop, getD}
+use lib.Dec.{ltb, leb}
+use Rattle.forest.specs.Lists.{upto}
+use Rattle.forest.specs.Cursors.{Path, cursorAt}
+use Rattle.forest.specs.declared.Cursor.{Cursor}
+use Rattle.path.specs.declared.Way.{Way}
+use Rattle.path.specs.declared.Way.the-variants.{Key, First, Last}
+
+-- where the words of node n start; t trees
+abbrev pub base : ℕ → ℕ → ℕ
+base t n = t + 16 * n - 14
+
+-- the sixteen words from place b on
+unfoldable pub blockAt : List ℕ → ℕ → List ℕ
+blockAt ws b = take 16 (drop b ws)
+
+-- the words of node n
+abbrev pub block : List ℕ → ℕ → ℕ → List ℕ
+block ws t n = blockAt ws (base t n)
+
+-- how many numbers at the front are below k
+abbrev pub below : ℕ → List ℕ → ℕ
+below k [] = 0
+below k (f ∷ fs) = cond (ltb f k) (suc (below k fs)) 0
+
+-- in an inner node of words w: the child to follow
+unfoldable pub turnOf : Way → List ℕ → ℕ
+turnOf (Key k) w = upto k (take (getD w 0 0 - 16) (drop 1 w))
+turnOf First w = 0
+turnOf Last w = getD w 0 0 - 16
+
+-- in a leaf of words w: the place
+unfoldable pub landOf : Way → List ℕ → ℕ
+landOf (Key k) w = below k (take (getD w 0 0 - 32) (drop 1 w))
+landOf First w = 0
+landOf Last w = getD w 0 0 - 33
+
+-- from node n down to a leaf, f levels at most
+unfoldable pub descend : Way → ℕ → List ℕ → ℕ → ℕ → Path
+descend way zero ws t n = []
+descend way (suc f) ws t n =
+    cond (leb 32 (getD (block ws t n) 0 0))
+    ((n, landOf way (block ws t n)) ∷ [])
+    ((n, turnOf way (block ws t n)) ∷ descend way f ws t (getD (block ws t n) (8 + turnOf way (block ws t n)) 0))
+
+-- node n lies in the words and is a leaf or an inner node
+pub record Lies (ws : List ℕ) (t n : ℕ) : Type 0 where
+  pub some : 1 ≤ n
+  pub few : n ≤ 512
+  pub long : base t n + 16 ≤ length ws
+  pub leaf : 32 ≤ getD (block ws t n) 0 0 → (33 ≤ getD (block ws t n) 0 0) × (getD (block ws t n) 0 0 ≤ 39)
+  pub inner : getD (block ws t n) 0 0 < 32 → (16 ≤ getD (block ws t n) 0 0) × (getD (block ws t n) 0 0 ≤ 23)
+
+-- and so do the nodes on every way down from it, f levels
+unfoldable pub Deep : ℕ → List ℕ → ℕ → ℕ → Type 0
+Deep zero ws t n = Unit {0}
+Deep (suc f) ws t n =
+    Lies ws t n ×
+    ((i : ℕ) → getD (block ws t n) 0 0 < 32 → i ≤ getD (block ws t n) 0 0 - 16 → Deep f ws t (getD (block ws t n) (8 + i) 0))
+
+-- cursor r is cursor c with more levels below
+pub record Extends (c r : Cursor) (more : Path) : Type 0 where
+  pub run : (path : Path) → c ≡ cursorAt (c .tree) path → r ≡ cursorAt (c .tree) (path ++ more)

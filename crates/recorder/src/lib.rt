@@ -1,0 +1,214 @@
+// The exports for programs in C and Rust: the public calls with numbered answers, and behind each the call for sound words.
+ghost use mathlib.Core.Path.{_≡_};
+ghost use Rattle.forest.specs.Sizes.{leafLeast};
+ghost use Rattle.forest.specs.Answers.{answerOf};
+ghost use Rattle.forest.specs.Pools.{Sound, get, put, remove, formatWords, formatAnswer};
+ghost use Rattle.forest.specs.Cursors.{to-first, to-key, to-next, to-prev, to-settled, to-remove};
+ghost use Rattle.forest.specs.Promises.{Calls, Moves};
+ghost use Rattle.sound.specs.Exact.{Exact};
+ghost use Rattle.map.specs.Gates.{Stood, Told};
+use forest::Answer;
+use forest::Cursor;
+
+// What a cursor call hands back.
+#[repr(C)]
+pub struct Moved {
+    pub answer: Answer,
+    pub cursor: Cursor,
+}
+
+// What a cursor call hands back, its reply in document 01's numbers.
+fn numbered(moved: forest::Moved) -> Moved
+    ensures answer { λ r. ⌜ r .answer ≡ answerOf (moved .reply) ⌝ }
+    ensures cursor { λ r. ⌜ r .cursor ≡ moved .cursor ⌝ }
+{
+    let reply = moved.reply;
+    let cursor = moved.cursor;
+    Moved {
+        answer: forest::numbered(reply),
+        cursor: cursor,
+    }
+}
+
+// The public calls, for any words
+
+// Whether the words are a sound pool.
+#[no_mangle]
+pub extern "C" fn recorder_check(words: &[u32]) -> bool
+    ensures { λ r. ⌜ Exact leafLeast (now (words .entry)) r ⌝ }
+{
+    sound::check(words)
+}
+
+// Lays out a pool of empty trees.
+#[no_mangle]
+pub extern "C" fn recorder_format(words: &mut [u32], trees: u32, nodes: u32) -> Answer
+    ensures words { λ _. ⌜ now (words .exit) ≡ formatWords trees nodes (now (words .entry)) ⌝ }
+    ensures answer { λ r. ⌜ r ≡ formatAnswer trees nodes (now (words .entry)) ⌝ }
+{
+    forest::numbered(pool::format(words, trees, nodes))
+}
+
+// The value of a key.
+#[no_mangle]
+pub extern "C" fn recorder_get(words: &[u32], tree: u32, key: u32) -> Answer
+    ensures { λ r. ⌜ Calls leafLeast (get tree key) (now (words .entry)) (now (words .entry)) r ⌝ }
+{
+    forest::numbered(map::get(words, tree, key))
+}
+
+// Files a value under a key, in place of an earlier one.
+#[no_mangle]
+pub extern "C" fn recorder_put(words: &mut [u32], tree: u32, key: u32, value: u32) -> Answer
+    ensures { λ r. ⌜ Calls leafLeast (put tree key value) (now (words .entry)) (now (words .exit)) r ⌝ }
+{
+    forest::numbered(map::put(words, tree, key, value))
+}
+
+// Takes a key out, with its value.
+#[no_mangle]
+pub extern "C" fn recorder_remove(words: &mut [u32], tree: u32, key: u32) -> Answer
+    ensures { λ r. ⌜ Calls leafLeast (remove tree key) (now (words .entry)) (now (words .exit)) r ⌝ }
+{
+    forest::numbered(map::remove(words, tree, key))
+}
+
+// Go to the first pair.
+#[no_mangle]
+pub extern "C" fn recorder_first(words: &[u32], at: Cursor) -> Moved
+    ensures { λ r. ⌜ Moves leafLeast to-first at (now (words .entry)) (now (words .entry)) (r .answer) (r .cursor) ⌝ }
+{
+    numbered(map::first(words, at))
+}
+
+// Go to a key, or where it would be put.
+#[no_mangle]
+pub extern "C" fn recorder_seek(words: &[u32], at: Cursor, key: u32) -> Moved
+    ensures { λ r. ⌜ Moves leafLeast (to-key key) at (now (words .entry)) (now (words .entry)) (r .answer) (r .cursor) ⌝ }
+{
+    numbered(map::seek(words, at, key))
+}
+
+// From one past a leaf's last entry go to the pair after it.
+#[no_mangle]
+pub extern "C" fn recorder_settle(words: &[u32], at: Cursor) -> Moved
+    ensures { λ r. ⌜ Moves leafLeast to-settled at (now (words .entry)) (now (words .entry)) (r .answer) (r .cursor) ⌝ }
+{
+    numbered(map::settle(words, at))
+}
+
+// Go to the next pair.
+#[no_mangle]
+pub extern "C" fn recorder_next(words: &[u32], at: Cursor) -> Moved
+    ensures { λ r. ⌜ Moves leafLeast to-next at (now (words .entry)) (now (words .entry)) (r .answer) (r .cursor) ⌝ }
+{
+    numbered(map::next(words, at))
+}
+
+// Go to the pair before.
+#[no_mangle]
+pub extern "C" fn recorder_prev(words: &[u32], at: Cursor) -> Moved
+    ensures { λ r. ⌜ Moves leafLeast to-prev at (now (words .entry)) (now (words .entry)) (r .answer) (r .cursor) ⌝ }
+{
+    numbered(map::prev(words, at))
+}
+
+// Takes out the pair that the cursor is on, and goes to the next.
+#[no_mangle]
+pub extern "C" fn recorder_remove_at(words: &mut [u32], at: Cursor) -> Moved
+    ensures { λ r. ⌜ Moves leafLeast to-remove at (now (words .entry)) (now (words .exit)) (r .answer) (r .cursor) ⌝ }
+{
+    numbered(map::remove_at(words, at))
+}
+
+// The calls for sound words, and from settle on for a cursor that stands
+
+// Whether a cursor stands in a tree that is there.
+#[no_mangle]
+pub extern "C" fn recorder_sound_stands(words: &[u32], at: Cursor) -> bool
+    requires { ⌜ Sound leafLeast (now words) ⌝ }
+    ensures { λ r. ⌜ Told (now (words .entry)) at r ⌝ }
+{
+    map::sound_stands(words, at)
+}
+
+// The value of a key.
+#[no_mangle]
+pub extern "C" fn recorder_sound_get(words: &[u32], tree: u32, key: u32) -> Answer
+    requires { ⌜ Sound leafLeast (now words) ⌝ }
+    ensures { λ r. ⌜ Calls leafLeast (get tree key) (now (words .entry)) (now (words .entry)) r ⌝ }
+{
+    forest::numbered(map::sound_get(words, tree, key))
+}
+
+// Files a value under a key, in place of an earlier one.
+#[no_mangle]
+pub extern "C" fn recorder_sound_put(words: &mut [u32], tree: u32, key: u32, value: u32) -> Answer
+    requires { ⌜ Sound leafLeast (now words) ⌝ }
+    ensures { λ r. ⌜ Calls leafLeast (put tree key value) (now (words .entry)) (now (words .exit)) r ⌝ }
+{
+    forest::numbered(map::sound_put(words, tree, key, value))
+}
+
+// Takes a key out, with its value.
+#[no_mangle]
+pub extern "C" fn recorder_sound_remove(words: &mut [u32], tree: u32, key: u32) -> Answer
+    requires { ⌜ Sound leafLeast (now words) ⌝ }
+    ensures { λ r. ⌜ Calls leafLeast (remove tree key) (now (words .entry)) (now (words .exit)) r ⌝ }
+{
+    forest::numbered(map::sound_remove(words, tree, key))
+}
+
+// Go to the first pair.
+#[no_mangle]
+pub extern "C" fn recorder_sound_first(words: &[u32], at: Cursor) -> Moved
+    requires { ⌜ Sound leafLeast (now words) ⌝ }
+    ensures { λ r. ⌜ Moves leafLeast to-first at (now (words .entry)) (now (words .entry)) (r .answer) (r .cursor) ⌝ }
+{
+    numbered(map::sound_first(words, at))
+}
+
+// Go to a key, or where it would be put.
+#[no_mangle]
+pub extern "C" fn recorder_sound_seek(words: &[u32], at: Cursor, key: u32) -> Moved
+    requires { ⌜ Sound leafLeast (now words) ⌝ }
+    ensures { λ r. ⌜ Moves leafLeast (to-key key) at (now (words .entry)) (now (words .entry)) (r .answer) (r .cursor) ⌝ }
+{
+    numbered(map::sound_seek(words, at, key))
+}
+
+// From one past a leaf's last entry go to the pair after it.
+#[no_mangle]
+pub extern "C" fn recorder_sound_settle(words: &[u32], at: Cursor) -> Moved
+    requires { ⌜ Stood (now words) at ⌝ }
+    ensures { λ r. ⌜ Moves leafLeast to-settled at (now (words .entry)) (now (words .entry)) (r .answer) (r .cursor) ⌝ }
+{
+    numbered(map::sound_settle(words, at))
+}
+
+// Go to the next pair.
+#[no_mangle]
+pub extern "C" fn recorder_sound_next(words: &[u32], at: Cursor) -> Moved
+    requires { ⌜ Stood (now words) at ⌝ }
+    ensures { λ r. ⌜ Moves leafLeast to-next at (now (words .entry)) (now (words .entry)) (r .answer) (r .cursor) ⌝ }
+{
+    numbered(map::sound_next(words, at))
+}
+
+// Go to the pair before.
+#[no_mangle]
+pub extern "C" fn recorder_sound_prev(words: &[u32], at: Cursor) -> Moved
+    requires { ⌜ Stood (now words) at ⌝ }
+    ensures { λ r. ⌜ Moves leafLeast to-prev at (now (words .entry)) (now (words .entry)) (r .answer) (r .cursor) ⌝ }
+{
+    numbered(map::sound_prev(words, at))
+}
+
+// Takes out the pair that the cursor is on, and goes to the next.
+#[no_mangle]
+pub extern "C" fn recorder_sound_remove_at(words: &mut [u32], at: Cursor) -> Moved
+    requires { ⌜ Stood (now words) at ⌝ }
+    ensures { λ r. ⌜ Moves leafLeast to-remove at (now (words .entry)) (now (words .exit)) (r .answer) (r .cursor) ⌝ }
+{
+    numbered(map::sound_remove_at(words, at))
+}

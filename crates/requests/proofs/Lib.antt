@@ -1,0 +1,5 @@
+pub mod Decimals
+pub mod Judging
+pub mod Falling
+pub mod Whole
+pub mod Trials

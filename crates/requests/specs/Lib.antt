@@ -1,0 +1,4 @@
+pub mod Text
+pub mod Replay
+pub mod Turns
+pub mod Runs
