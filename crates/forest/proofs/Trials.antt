@@ -222,6 +222,17 @@ p9-agrees : agree p9 ≡ true
 unfolding steps p9
 p9-agrees = refl
 
+-- B, 38 sought and removed there: one past the last entry of a leaf is no pair, and nothing changes
+pub no-pair : Trial
+no-pair = record {
+  seen = seenMoved (removed 38 (B 3));
+  said = (10 ∷ 20 ∷ 30 ∷ 35 ∷ []) ∷ (40 ∷ 50 ∷ 60 ∷ 70 ∷ []) ∷ (40 ∷ []) ∷ [] ∷ (0 ∷ 0 ∷ 0 ∷ 0 ∷ []) ∷ (3 ∷ 0 ∷ 1 ∷ 4 ∷ []) ∷ [];
+}
+
+no-pair-agrees : agree no-pair ≡ true
+unfolding steps no-pair
+no-pair-agrees = refl
+
 -- P10: no leaf, root 0, F = N
 pub p10 : Trial
 p10 = record {
@@ -335,11 +346,11 @@ next-leaf-agrees = refl
 
 -- the claim
 abbrev pub trials : List Trial
-trials = fresh-pool ∷ one-put ∷ p1 ∷ p2 ∷ p3 ∷ p4 ∷ p5 ∷ p6 ∷ p7 ∷ p8 ∷ p9 ∷ p10 ∷
+trials = fresh-pool ∷ one-put ∷ p1 ∷ p2 ∷ p3 ∷ p4 ∷ p5 ∷ p6 ∷ p7 ∷ p8 ∷ p9 ∷ p10 ∷ no-pair ∷
     no-nodes ∷ last-tree ∷ end-keys ∷ formats ∷ after-seek ∷ replayed ∷ odd-share ∷ three-freed ∷ next-leaf ∷ []
 
 pub holds : (t : Trial) → agree t ≡ true → t .seen ≡ t .said
 holds t e = lists-same (t .seen) (t .said) e
 
 pub trials-hold : AllHold trials
-trials-hold = (holds fresh-pool fresh-pool-agrees, (holds one-put one-put-agrees, (holds p1 p1-agrees, (holds p2 p2-agrees, (holds p3 p3-agrees, (holds p4 p4-agrees, (holds p5 p5-agrees, (holds p6 p6-agrees, (holds p7 p7-agrees, (holds p8 p8-agrees, (holds p9 p9-agrees, (holds p10 p10-agrees, (holds no-nodes no-nodes-agrees, (holds last-tree last-tree-agrees, (holds end-keys end-keys-agrees, (holds formats formats-agrees, (holds after-seek after-seek-agrees, (holds replayed replayed-agrees, (holds odd-share odd-share-agrees, (holds three-freed three-freed-agrees, (holds next-leaf next-leaf-agrees, tt)))))))))))))))))))))
+trials-hold = (holds fresh-pool fresh-pool-agrees, (holds one-put one-put-agrees, (holds p1 p1-agrees, (holds p2 p2-agrees, (holds p3 p3-agrees, (holds p4 p4-agrees, (holds p5 p5-agrees, (holds p6 p6-agrees, (holds p7 p7-agrees, (holds p8 p8-agrees, (holds p9 p9-agrees, (holds p10 p10-agrees, (holds no-pair no-pair-agrees, (holds no-nodes no-nodes-agrees, (holds last-tree last-tree-agrees, (holds end-keys end-keys-agrees, (holds formats formats-agrees, (holds after-seek after-seek-agrees, (holds replayed replayed-agrees, (holds odd-share odd-share-agrees, (holds three-freed three-freed-agrees, (holds next-leaf next-leaf-agrees, tt))))))))))))))))))))))
