@@ -110,7 +110,7 @@ pub call-stack : (c : Call) (p : Pool) → refused c p ≡ 0 →
 unfolding done
 call-stack c p e = rw (call-done c p e)
 
-length-push : (xs s : List ℕ) → length (pushAll xs s) ≡ length xs + length s
+pub length-push : (xs s : List ℕ) → length (pushAll xs s) ≡ length xs + length s
 length-push xs s = omega (arith, total-push (λ n. 1) xs s, total-length (pushAll xs s), total-length xs, total-length s)
 
 pub call-left : (c : Call) (p : Pool) → refused c p ≡ 0 →

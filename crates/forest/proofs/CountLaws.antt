@@ -131,17 +131,17 @@ length-pad zero xs = refl
 length-pad (suc n) [] = ap suc (length-pad n [])
 length-pad (suc n) (x ∷ xs) = ap suc (length-pad n xs)
 
-leaf-length : (xs : List Item) → length (leafWords xs) ≡ 16
+pub leaf-length : (xs : List Item) → length (leafWords xs) ≡ 16
 leaf-length xs = simp (length-append, length-pad)
 
-inner-length : (xs : List Item) → length (innerWords xs) ≡ 16
+pub inner-length : (xs : List Item) → length (innerWords xs) ≡ 16
 inner-length xs = simp (length-append, length-pad)
 
 row-length : (words : List Item → List ℕ) (n : ℕ) (R : Row) (d : List ℕ) → ((xs : List Item) → length (words xs) ≡ 16) → length d ≡ 16 → length (inRow words n R d) ≡ 16
 row-length words n [] d h e = e
 row-length words n (m ∷ R) d h e = elim (test (eqb n (m .num))) [ is f ↦ simp f (h (m .items)) | isnt f ↦ simp f (row-length words n R d h e) ]
 
-rows-length : (n : ℕ) (Rs : List Row) (d : List ℕ) → length d ≡ 16 → length (inRows n Rs d) ≡ 16
+pub rows-length : (n : ℕ) (Rs : List Row) (d : List ℕ) → length d ≡ 16 → length (inRows n Rs d) ≡ 16
 rows-length n [] d e = e
 rows-length n (R ∷ Rs) d e = row-length innerWords n R (inRows n Rs d) inner-length (rows-length n Rs d e)
 
@@ -149,7 +149,7 @@ tree-length : (n : ℕ) (t : Tree) (d : List ℕ) → length d ≡ 16 → length
 tree-length n [] d e = e
 tree-length n (L ∷ Rs) d e = row-length leafWords n L (inRows n Rs d) leaf-length (rows-length n Rs d e)
 
-trees-length : (n : ℕ) (ts : List Tree) (d : List ℕ) → length d ≡ 16 → length (inTrees n ts d) ≡ 16
+pub trees-length : (n : ℕ) (ts : List Tree) (d : List ℕ) → length d ≡ 16 → length (inTrees n ts d) ≡ 16
 trees-length n [] d e = e
 trees-length n (t ∷ ts) d e = tree-length n t (inTrees n ts d) (trees-length n ts d e)
 

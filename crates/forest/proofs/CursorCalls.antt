@@ -69,7 +69,7 @@ prev-on L j (suc e) s h k p =
     sym (ap (spotAt L) z ∙ spot-position L j e s h (omega arith))
 
 -- where a move comes to is a spot that a cursor can stand at
-fits-start : (L : Row) (j : ℕ) → Fits L (leafStart L j)
+pub fits-start : (L : Row) (j : ℕ) → Fits L (leafStart L j)
 fits-start L j = elim (test (ltb j (length L))) [ is e ↦ simp e (ltb-true _ _ e, omega arith) | isnt e ↦ simp e tt ]
 
 fits-seek : (m k : ℕ) (t : Tree) → 1 ≤ m → Good m 7 t → Fits (leaves t) (seek k (leaves t))
@@ -82,11 +82,11 @@ fits-settle : (L : Row) (s : Spot) → Fits L s → Fits L (settle L s)
 fits-settle L off f = tt
 fits-settle L (on j e) f = elim (test (ltb e (sizeAt L j))) [ is c ↦ simp c f | isnt c ↦ simp c (fits-start L (suc j)) ]
 
-fits-next : (L : Row) (s : Spot) → Fits L s → Fits L (next L s)
+pub fits-next : (L : Row) (s : Spot) → Fits L s → Fits L (next L s)
 fits-next L off f = tt
 fits-next L (on j e) f = elim (test (ltb (suc e) (sizeAt L j))) [ is c ↦ simp c (f .0, omega tests) | isnt c ↦ simp c (fits-start L (suc j)) ]
 
-fits-prev : (L : Row) (s : Spot) → Fits L s → Fits L (prev L s)
+pub fits-prev : (L : Row) (s : Spot) → Fits L s → Fits L (prev L s)
 fits-prev L off f = elim (test (ltb 0 (length L))) [ is c ↦ simp c (omega tests, omega arith) | isnt c ↦ simp c tt ]
 fits-prev L (on zero zero) f = f
 fits-prev L (on (suc j) zero) f = (omega arith, omega arith)

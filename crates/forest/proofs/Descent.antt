@@ -73,7 +73,7 @@ upto-inside : (k : ℕ) (xs : List Item) → 1 ≤ length xs → upto k (stored 
 upto-inside k [] h = absurd (omega arith)
 upto-inside k (x ∷ xs) h = omega (arith, upto-length k (keys xs), length-map xs (λ (z : Item). z .0))
 
-front-append : (xs ys : List Item) → 1 ≤ length xs → front (xs ++ ys) ≡ front xs
+pub front-append : (xs ys : List Item) → 1 ≤ length xs → front (xs ++ ys) ≡ front xs
 front-append [] ys h = absurd (omega arith)
 front-append (x ∷ xs) ys h = refl
 

@@ -78,7 +78,7 @@ refresh-first n x y xs R R′ ((m ∷ S) ∷ Ss) d a b e s =
     rekey-first n x y xs (m ∷ S) (inRows n (refresh (rekey (x ∷ xs) (m ∷ S)) Ss) d) e (s .0))
 
 -- a put lands in front of a leaf only in the first leaf
-upto-at : (k u : ℕ) (R : Row) → u < upto k (fronts R) → front (itemsAt R u) ≤ k
+pub upto-at : (k u : ℕ) (R : Row) → u < upto k (fronts R) → front (itemsAt R u) ≤ k
 upto-at k u [] h = absurd (omega arith)
 upto-at k zero (m ∷ R) h = elim (test (leb (front (m .items)) k)) [ is e ↦ leb-true _ _ e | isnt e ↦ absurd (let z = simp e at h in omega arith) ]
 upto-at k (suc u) (m ∷ R) h = elim (test (leb (front (m .items)) k)) [
@@ -86,7 +86,7 @@ upto-at k (suc u) (m ∷ R) h = elim (test (leb (front (m .items)) k)) [
   | isnt e ↦ absurd (let z = simp e at h in omega arith)
 ]
 
-place-some : (k : ℕ) (xs : List Item) → 1 ≤ length xs → has k xs ≡ false → front xs ≤ k → 1 ≤ place k xs
+pub place-some : (k : ℕ) (xs : List Item) → 1 ≤ length xs → has k xs ≡ false → front xs ≤ k → 1 ≤ place k xs
 place-some k [] h f e = absurd (omega arith)
 place-some k (x ∷ xs) h f e = elim (tri (x .0) k) [
   | less c ↦ simp (lt-ltb (x .0) k c) (omega arith)
@@ -94,7 +94,7 @@ place-some k (x ∷ xs) h f e = elim (tri (x .0) k) [
   | more c ↦ absurd (omega arith)
 ]
 
-some-at : (R : Row) (j : ℕ) → NoneEmpty R → j < length R → 1 ≤ length (itemsAt R j)
+pub some-at : (R : Row) (j : ℕ) → NoneEmpty R → j < length R → 1 ≤ length (itemsAt R j)
 some-at [] j s h = absurd (omega arith)
 some-at (m ∷ R) zero s h = s .0
 some-at (m ∷ R) (suc j) s h = some-at R j (s .1) (omega arith)
@@ -133,7 +133,7 @@ room-above n m c k v new (l ∷ L) Rs d lo g e f = go (leafOf k (l ∷ L)) refl
         by-line R R′ (S ∷ Ss) e = ap (λ (xs : List Item). rekey xs S ∷ refresh (rekey xs S) Ss) e
 
 -- the root is the same node
-root-refresh : (R R′ : Row) (Rs : List Row) → nums R′ ≡ nums R → rootAbove R′ (refresh R′ Rs) ≡ rootAbove R Rs
+pub root-refresh : (R R′ : Row) (Rs : List Row) → nums R′ ≡ nums R → rootAbove R′ (refresh R′ Rs) ≡ rootAbove R Rs
 root-refresh R R′ [] e = ap (λ (xs : List ℕ). getD xs 0 0) e
 root-refresh R R′ (S ∷ Ss) e = root-refresh S (rekey (line R′) S) Ss (rekey-nums (line R′) S)
 

@@ -49,6 +49,28 @@ module _ (m : ℕ) (lo : 1 ≤ m) where
     unsound-answer = λ k. refl;
   }
 
+  -- the same of a cursor call
+  pub moves-by : (v : Move) (c : Cursor) (before after : List ℕ) (r : Answer) (d : Cursor) (s : Sound m before) →
+      encode ((move v c (s .pool)) .pool) ≡ after → (move v c (s .pool)) .answer ≡ r → (move v c (s .pool)) .cursor ≡ d → Moves m v c before after r d
+  moves-by v c before after r d s e a f = record {
+    sound-words = λ p w b. ap (λ (q : Pool). encode ((move v c q) .pool)) (same-pool m lo p (s .pool) w (s .formed) (b ∙ sym (s .same))) ∙ e;
+    sound-answer = λ p w b. ap (λ (q : Pool). (move v c q) .answer) (same-pool m lo p (s .pool) w (s .formed) (b ∙ sym (s .same))) ∙ a;
+    sound-cursor = λ p w b. ap (λ (q : Pool). (move v c q) .cursor) (same-pool m lo p (s .pool) w (s .formed) (b ∙ sym (s .same))) ∙ f;
+    unsound-words = λ n. absurd (n s);
+    unsound-answer = λ n. absurd (n s);
+    unsound-cursor = λ n. absurd (n s);
+  }
+
+  pub moves-unsound : (v : Move) (c : Cursor) (before : List ℕ) → (Sound m before → ⊥) → Moves m v c before before (refusal 1) c
+  moves-unsound v c before n = record {
+    sound-words = λ p w b. absurd (n (record { pool = p; formed = w; same = b }));
+    sound-answer = λ p w b. absurd (n (record { pool = p; formed = w; same = b }));
+    sound-cursor = λ p w b. absurd (n (record { pool = p; formed = w; same = b }));
+    unsound-words = λ k. refl;
+    unsound-answer = λ k. refl;
+    unsound-cursor = λ k. refl;
+  }
+
 -- two outcomes that keep the promise are the same, whether the words are sound or not
 module _ (m : ℕ) (c : Call) (before x y : List ℕ) (r s : Answer) (a : Calls m c before x r) (b : Calls m c before y s) where
   pub one-outcome-sound : Sound m before → (x ≡ y) × (r ≡ s)

@@ -1,7 +1,7 @@
 -- DEFINITIONS AND PROOFS. Document 01's sentences on a sound pool, as facts about a well formed one
 use mathlib.Core.Path.{_≡_, refl, sym, ap, _∙_}
 use mathlib.Core.List.{List, [], _∷_, _++_, append-assoc, map}
-use mathlib.Core.Bool.{Bool, true, false, _&&_}
+use mathlib.Core.Bool.{true, _&&_}
 use mathlib.Core.Logic.{_≢_}
 use Prim.Native.Nat.{ℕ, zero, suc, _+_, _-_, _≤_, _<_}
 use native.Mathlib.Omega.{arith}
@@ -9,13 +9,13 @@ use lib.ListN.{length, take, drop, getD, length-map, length-append, length-drop}
 use lib.Seq.{drop-append-seam}
 use lib.Dec.{leb}
 use borrow.Author.Tests.{eq-eqb, le-leb, lt-leb, leb-true}
-use Rattle.forest.specs.Lists.{sum, once, count}
+use Rattle.forest.specs.Lists.{sum, count}
 use Rattle.forest.specs.Pairs.{Item, Above, Rising, has}
 use Rattle.forest.specs.Rows.{Row, Tree, size, sizes, nums, front, fronts, joined, line, Fill, Tower, Good}
 use Rattle.forest.specs.Trees.{pairs, numbers}
 use Rattle.forest.specs.Pools.{Pool, WellFormed, used, treeOf}
 use Rattle.forest.specs.Cursors.{on, pathOf}
-use Rattle.forest.proofs.ListLaws.{Test, is, isnt, test, cons-eq, map-append, map-drop}
+use Rattle.forest.proofs.ListLaws.{is, isnt, test, cons-eq, map-append, map-drop}
 use Rattle.forest.proofs.PairLaws.{rising-left, rising-right}
 use Rattle.forest.proofs.RowLaws.{sum-sizes, length-line}
 use Rattle.forest.proofs.TreeLaws.{NoneEmpty, none-empty}
@@ -229,7 +229,7 @@ one-tree m p n s t h d k =
 
 -- "A node that is not the last of its level is half full", and the last is not empty
 
-fill-inside : (lo hi : ℕ) (xs : List ℕ) (i : ℕ) → Fill lo hi xs → suc i < length xs → lo ≤ getD xs i 0
+pub fill-inside : (lo hi : ℕ) (xs : List ℕ) (i : ℕ) → Fill lo hi xs → suc i < length xs → lo ≤ getD xs i 0
 fill-inside lo hi [] i f h = absurd (omega arith)
 fill-inside lo hi (x ∷ []) i f h = absurd (omega arith)
 fill-inside lo hi (x ∷ y ∷ xs) zero f h = f .0

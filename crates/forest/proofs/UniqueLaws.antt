@@ -5,14 +5,12 @@ use Prim.Native.Nat.{ℕ, zero, suc, _+_, _-_, _*_, _≤_, _<_}
 use native.Mathlib.Omega.{arith}
 use lib.ListN.{length, take, drop, getD, length-map, length-reverse}
 use lib.Seq.{take-at, drop-at, ext-getD}
-use lib.Dec.{leb}
-use borrow.Author.Tests.{leb-true}
 use Rattle.forest.specs.Lists.{count, pad}
 use Rattle.forest.specs.Pairs.{Item}
 use Rattle.forest.specs.Rows.{Row, Tree, node, size, nums, sizes, joined, line, itemsAt, Fill, Tower, Good}
 use Rattle.forest.specs.Trees.{numbers}
 use Rattle.forest.specs.Pools.{Pool, used, WellFormed, treeOf, leafWords, innerWords, nodeWords, rootAbove, root, encode, Sound}
-use Rattle.forest.proofs.ListLaws.{is, isnt, test, cons-eq, map-append}
+use Rattle.forest.proofs.ListLaws.{cons-eq, map-append}
 use Rattle.forest.proofs.TowerLaws.{tower-some}
 use Rattle.forest.proofs.PoolLaws.{good-at}
 use Rattle.forest.proofs.CountLaws.{nodes-all, length-pad}
@@ -97,7 +95,7 @@ fit-at : (c : ℕ) (R : Row) → Fit c R → 1 ≤ length R → (1 ≤ length (i
 fit-at c [] f h = absurd (omega arith)
 fit-at c (n ∷ R) f h = (f .0, f .1)
 
-nums-length : (A B : Row) → nums A ≡ nums B → length A ≡ length B
+pub nums-length : (A B : Row) → nums A ≡ nums B → length A ≡ length B
 nums-length A B e = sym (length-map A (λ n. n .num)) ∙ ap length e ∙ length-map B (λ n. n .num)
 
 row-eq : (A B : Row) → nums A ≡ nums B → sizes A ≡ sizes B → joined A ≡ joined B → A ≡ B

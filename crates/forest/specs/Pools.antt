@@ -1,7 +1,7 @@
 -- DEFINITIONS. A pool of trees, when it is well formed, its words, and the calls
 use mathlib.Core.Path.{_≡_}
 use mathlib.Core.List.{List, [], _∷_, _++_, map, reverse}
-use mathlib.Core.Bool.{Bool, cond, _&&_}
+use mathlib.Core.Bool.{cond, _&&_}
 use Prim.Native.Nat.{ℕ, zero, suc, _+_, _-_, _*_, _≤_}
 use lib.ListN.{length, drop, getD, set, replicate}
 use lib.Dec.{ltb, leb, eqb}

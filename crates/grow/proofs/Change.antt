@@ -11,13 +11,9 @@ use borrow.Author.Tests.{lt-ltb, le-ltb, leb-true, leb-false}
 use Rattle.forest.specs.Lists.{insertAt}
 use Rattle.forest.specs.Pairs.{Item}
 use Rattle.grow.specs.Grows.{leftPart, rightPart}
-use Rattle.forest.specs.Rows.{Node, Row, node, size, front, nums, sizes, line, itemsAt, putNode, putRow, full}
-
--- the items of the j-th node become f of them
-abbrev pub upd : ℕ → (List Item → List Item) → Row → Row
-upd j f [] = []
-upd zero f (n ∷ R) = node (n .num) (f (n .items)) ∷ R
-upd (suc j) f (n ∷ R) = n ∷ upd j f R
+use Rattle.forest.specs.Rows.{Node, Row, node, size, front, sizes, line, itemsAt, putNode, putRow, full}
+pub use Rattle.pool.specs.Stores.{upd}
+pub use Rattle.pool.proofs.Held.{upd-nums}
 
 pub put-with-room : (c j p : ℕ) (x : Item) (new : ℕ) (R : Row) → full c j R ≡ false → putRow c j p x new R ≡ upd j (insertAt p x) R
 unfolding putNode
@@ -67,8 +63,3 @@ pub put-sizes : (c j p : ℕ) (x y : Item) (new : ℕ) (R : Row) → sizes (putR
 put-sizes c j p x y new [] = refl
 put-sizes c zero p x y new (n ∷ R) = map-append size (putNode c p x new n) R ∙ ap (_++ sizes R) (node-sizes c p x y new n) ∙ sym (map-append size (putNode c p y new n) R)
 put-sizes c (suc j) p x y new (n ∷ R) = ap (size n ∷_) (put-sizes c j p x y new R)
-
-pub upd-nums : (j : ℕ) (f : List Item → List Item) (R : Row) → nums (upd j f R) ≡ nums R
-upd-nums j f [] = refl
-upd-nums zero f (n ∷ R) = refl
-upd-nums (suc j) f (n ∷ R) = ap (n .num ∷_) (upd-nums j f R)

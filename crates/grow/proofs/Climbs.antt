@@ -11,7 +11,7 @@ use Rattle.forest.specs.Pairs.{Item}
 use Rattle.forest.specs.Rows.{Row, size, nums, sizes, itemsAt, full, Tower}
 use Rattle.forest.specs.Trees.{numbers, needUp}
 use Rattle.forest.specs.Pools.{innerWords}
-use Rattle.forest.proofs.ListLaws.{is, parent-lt, offset-lt}
+use Rattle.forest.proofs.ListLaws.{parent-lt, offset-lt}
 use Rattle.forest.proofs.RowLaws.{sum-sizes, length-line, length-items, fill-at}
 use Rattle.pool.specs.Stores.{Store, block, Placed}
 use Rattle.pool.proofs.Bridges.{spell-placed, spell-block}

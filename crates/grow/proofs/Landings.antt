@@ -7,12 +7,12 @@ use native.Mathlib.Omega.{arith}
 use lib.ListN.{length, drop, getD, length-drop}
 use lib.Seq.{set-getD}
 use borrow.Author.Tests.{le-leb, lt-leb}
-use Rattle.forest.specs.Lists.{insertAt, once, count}
+use Rattle.forest.specs.Lists.{insertAt, count}
 use Rattle.forest.specs.Pairs.{Item}
 use Rattle.forest.specs.Rows.{front, sizes, itemsAt, keeps, full}
 use Rattle.forest.specs.Trees.{numbers, needUp}
 use Rattle.forest.specs.Pools.{leafWords, rootAbove}
-use Rattle.forest.proofs.ListLaws.{is, drop-one}
+use Rattle.forest.proofs.ListLaws.{drop-one}
 use Rattle.forest.proofs.RowLaws.{length-items}
 use Rattle.pool.specs.Stores.{put, spell, block, withBlock, topNode, Placed}
 use Rattle.pool.proofs.Bridges.{spell-placed, spell-block, spell-withBlock}

@@ -1,18 +1,18 @@
 -- PROOFS. A put on one tree, in the store: it holds the rows of the definition, and changes no number but those of the tree and those taken
-use mathlib.Core.Path.{_≡_, refl, sym, ap, _∙_}
+use mathlib.Core.Path.{_≡_, refl, ap, _∙_}
 use mathlib.Core.List.{List, [], _∷_}
-use mathlib.Core.Bool.{Bool, true, false, cond}
+use mathlib.Core.Bool.{true, false, cond}
 use Prim.Native.Nat.{ℕ, zero, suc, _+_, _-_, _≤_, _<_}
 use native.Mathlib.Omega.{arith}
 use lib.ListN.{length, take, drop, getD, set, length-drop}
-use lib.Dec.{leb, eqb}
-use borrow.Author.Tests.{lt-ltb, leb-true, eq-eqb}
-use Rattle.forest.specs.Lists.{insertAt, once, count, upto}
+use lib.Dec.{eqb}
+use borrow.Author.Tests.{eq-eqb}
+use Rattle.forest.specs.Lists.{insertAt, once, count}
 use Rattle.forest.specs.Pairs.{Item, has, place}
-use Rattle.forest.specs.Rows.{Row, Tree, node, front, nums, fronts, line, itemsAt, keeps, putRow, setRow, full, refresh, Good}
+use Rattle.forest.specs.Rows.{Row, Tree, node, front, nums, line, itemsAt, keeps, putRow, setRow, full, refresh, Good}
 use Rattle.forest.specs.Trees.{numbers, leafOf, leafItems, growUp, needUp, putLeaf, putTree, need}
 use Rattle.forest.specs.Pools.{leafWords, rootAbove, root}
-use Rattle.forest.proofs.ListLaws.{is, isnt, test, tri, less, same, more, total-insertAt, total-head}
+use Rattle.forest.proofs.ListLaws.{is, isnt, test, same, total-insertAt, total-head}
 use Rattle.forest.proofs.RowLaws.{putRow-room, putRow-full, keeps-fits, setRow-nums}
 use Rattle.forest.proofs.TreeLaws.{NoneEmpty, none-empty, lands}
 use Rattle.forest.proofs.TowerLaws
@@ -23,6 +23,7 @@ use Rattle.grow.proofs.Lead
 use Rattle.grow.proofs.Change
 use Rattle.grow.proofs.Mem
 use Rattle.grow.proofs.Up
+use Rattle.forest.proofs.FrameLaws.{upto-at, place-some, some-at, root-refresh}
 
 abbrev pub HoldsTree : Store → Tree → Type 0
 HoldsTree st [] = Unit {0}
@@ -39,28 +40,6 @@ putStore k v new (L ∷ Rs) st =
 abbrev pub putRoot : ℕ → List ℕ → Tree → ℕ
 putRoot k new [] = getD new 0 0
 putRoot k new (L ∷ Rs) = cond (has k (leafItems k L)) (rootAbove L Rs) (leafRoot (leafOf k L) new L Rs)
-
--- a put lands in front of a leaf only in the first leaf
-upto-at : (k u : ℕ) (R : Row) → u < upto k (fronts R) → front (itemsAt R u) ≤ k
-upto-at k u [] h = absurd (omega arith)
-upto-at k zero (m ∷ R) h = elim (test (leb (front (m .items)) k)) [ is e ↦ leb-true _ _ e | isnt e ↦ absurd (let z = simp e at h in omega arith) ]
-upto-at k (suc u) (m ∷ R) h = elim (test (leb (front (m .items)) k)) [
-  | is e ↦ upto-at k u R (let z = simp e at h in omega arith)
-  | isnt e ↦ absurd (let z = simp e at h in omega arith)
-]
-
-place-some : (k : ℕ) (xs : List Item) → 1 ≤ length xs → has k xs ≡ false → front xs ≤ k → 1 ≤ place k xs
-place-some k [] h f e = absurd (omega arith)
-place-some k (x ∷ xs) h f e = elim (tri (x .0) k) [
-  | less c ↦ simp (lt-ltb (x .0) k c) (omega arith)
-  | same c ↦ absurd (let z : _≡_ {A = Bool} true false = sym (rw (eq-eqb k (x .0) (sym c))) ∙ f in let y : _≡_ {A = ℕ} 0 1 = cc in omega arith)
-  | more c ↦ absurd (omega arith)
-]
-
-pub some-at : (R : Row) (j : ℕ) → NoneEmpty R → j < length R → 1 ≤ length (itemsAt R j)
-some-at [] j s h = absurd (omega arith)
-some-at (m ∷ R) zero s h = s .0
-some-at (m ∷ R) (suc j) s h = some-at R j (s .1) (omega arith)
 
 behind : (k : ℕ) (L : Row) → NoneEmpty L → leafOf k L < length L → has k (leafItems k L) ≡ false → 1 ≤ leafOf k L → 1 ≤ place k (leafItems k L)
 behind k [] s h e b = absurd (omega arith)
@@ -170,7 +149,7 @@ module _ (m : ℕ) (lo : 1 ≤ m) (k v : ℕ) (new : List ℕ) (L : Row) (Rs : L
               (λ y. omega (arith, each y)) (cut-above st (λ y. omega (arith, each y)) (s .1)),
         )
     | isnt q ↦ simp q (
-      rw (Change.put-with-room 7 j p x (getD new 0 0) L q) (Mem.holds-upd leafWords st L j (insertAt p x) at (λ y. omega (arith, Mem.parts y L Rs, o y)) (s .0)),
+      rw (Change.put-with-room 7 j p x (getD new 0 0) L q) (Mem.holds-upd leafWords st L j (insertAt p x) _ at (λ y. omega (arith, Mem.parts y L Rs, o y)) refl (s .0)),
       Up.up-lead (led-room .first) L (putRow 7 j p x (getD new 0 0) L) Rs _ (g .2) (room-line q)
           (Mem.up-keeps st _ Rs (λ y c. put-other st (numAt L j) (leafWords (insertAt p x (itemsAt L j))) y
           (λ z. let u = rw z at c in omega (arith, Mem.numAt-counts L j at, Mem.parts (numAt L j) L Rs, o (numAt L j)))) (s .1)),
@@ -195,7 +174,7 @@ module _ (m : ℕ) (lo : 1 ≤ m) (k v : ℕ) (new : List ℕ) (L : Row) (Rs : L
   absent-root : rootAbove (putRow 7 j p x (getD new 0 0) L) (refresh (putRow 7 j p x (getD new 0 0) L) (cond (full 7 j L) (growUp j (drop 1 new) Rs) Rs)) ≡ leafRoot j new L Rs
   absent-root = elim (test (full 7 j L)) [
     | is q ↦ simp q (Up.up-root (led-cut .first) L (putRow 7 j p x (getD new 0 0) L) Rs (rootAbove L Rs) j _ (drop 1 new) (g .2) at (cut-line q) refl)
-    | isnt q ↦ simp q (Up.root-refresh L (putRow 7 j p x (getD new 0 0) L) Rs (putRow-room 7 j p x (getD new 0 0) L q))
+    | isnt q ↦ simp q (root-refresh L (putRow 7 j p x (getD new 0 0) L) Rs (putRow-room 7 j p x (getD new 0 0) L q))
   ]
 
 -- a present key: its value is replaced
@@ -207,7 +186,7 @@ module _ (m : ℕ) (lo : 1 ≤ m) (k v : ℕ) (L : Row) (Rs : List Row) (g : Goo
       HoldsTree (put st (numAt L (leafOf k L)) (leafWords (set (leafItems k L) (place k (leafItems k L)) (k, v)))) (setRow (leafOf k L) (place k (leafItems k L)) (k, v) L ∷ Rs)
   present-holds st o s = (
     rw (set-upd (leafOf k L) (place k (leafItems k L)) (k, v) L)
-        (Mem.holds-upd leafWords st L (leafOf k L) (λ ys. set ys (place k (leafItems k L)) (k, v)) present-at (λ y. omega (arith, Mem.parts y L Rs, o y)) (s .0)),
+        (Mem.holds-upd leafWords st L (leafOf k L) (λ ys. set ys (place k (leafItems k L)) (k, v)) _ present-at (λ y. omega (arith, Mem.parts y L Rs, o y)) refl (s .0)),
     Mem.up-keeps st _ Rs (λ y c. put-other st (numAt L (leafOf k L)) _ y
         (λ z. let u = rw z at c in
         omega (arith, Mem.numAt-counts L (leafOf k L) present-at, Mem.parts (numAt L (leafOf k L)) L Rs, o (numAt L (leafOf k L))))) (s .1),

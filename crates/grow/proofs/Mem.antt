@@ -1,21 +1,16 @@
 -- PROOFS. A store, number to words, holds rows: what a change of some numbers leaves
 use mathlib.Core.Path.{_≡_, refl, sym, _∙_}
-use mathlib.Core.List.{List, [], _∷_, _++_}
-use Prim.Native.Nat.{ℕ, zero, suc, _+_, _-_, _≤_, _<_}
+use mathlib.Core.List.{List, [], _∷_}
+use Prim.Native.Nat.{ℕ, zero, suc, _-_, _≤_}
 use native.Mathlib.Omega.{arith}
 use lib.ListN.{length, getD}
-use lib.Dec.{eqb}
 use borrow.Author.Tests.{eq-eqb}
-use Rattle.forest.specs.Lists.{insertAt, once, count}
+use Rattle.forest.specs.Lists.{insertAt, count}
 use Rattle.forest.specs.Pairs.{Item}
-use Rattle.forest.specs.Rows.{Node, Row, node, nums, itemsAt}
-use Rattle.forest.specs.Trees.{numbers}
+use Rattle.forest.specs.Rows.{Node, Row}
 use Rattle.forest.specs.Pools.{innerWords}
-use Rattle.forest.proofs.ListLaws.{is, total-append}
-use Rattle.pool.specs.Stores.{Store, put}
-use Rattle.pool.proofs.Spell.{put-same, put-other}
-use Rattle.grow.specs.Grows.{numAt, Holds, HoldsUp}
-use Rattle.grow.proofs.Change.{upd}
+use Rattle.pool.specs.Stores.{Store, Holds}
+pub use Rattle.pool.proofs.Held.{numAt-counts, holds-at, holds-keeps, frame, holds-upd, parts, up-keeps}
 use Rattle.grow.proofs.Lead.{leadRow, lead-words}
 
 -- a number that stands in xs is none that doesn't
@@ -26,40 +21,7 @@ pub head-counts : (xs : List ℕ) → 1 ≤ length xs → 1 ≤ count (getD xs 0
 head-counts [] h = absurd (omega arith)
 head-counts (x ∷ xs) h = simp (eq-eqb x x refl) (omega arith)
 
-pub numAt-counts : (R : Row) (j : ℕ) → j < length R → 1 ≤ count (numAt R j) (nums R)
-numAt-counts [] j h = absurd (omega arith)
-numAt-counts (n ∷ R) zero h = simp (eq-eqb (n .num) (n .num) refl) (omega arith)
-numAt-counts (n ∷ R) (suc j) h = omega (arith, numAt-counts R j (omega arith))
-
 module _ (enc : List Item → List ℕ) where
-  pub holds-at : (st : Store) (R : Row) (j : ℕ) → j < length R → Holds enc st R → st (numAt R j) ≡ enc (itemsAt R j)
-  holds-at st [] j h s = absurd (omega arith)
-  holds-at st (n ∷ R) zero h s = s .0
-  holds-at st (n ∷ R) (suc j) h s = holds-at st R j (omega arith) (s .1)
-
-  -- a store that agrees on the numbers of the row
-  pub holds-keeps : (st st′ : Store) (R : Row) → ((x : ℕ) → 1 ≤ count x (nums R) → st′ x ≡ st x) → Holds enc st R → Holds enc st′ R
-  holds-keeps st st′ [] k s = tt
-  holds-keeps st st′ (n ∷ R) k s =
-      (k (n .num) (simp (eq-eqb (n .num) (n .num) refl) (omega arith)) ∙ s .0, holds-keeps st st′ R (λ x h. k x (omega arith)) (s .1))
-
-  pub frame : (st : Store) (n : ℕ) (w : List ℕ) (R : Row) → count n (nums R) ≡ 0 → Holds enc st R → Holds enc (put st n w) R
-  frame st n w R c s = holds-keeps st (put st n w) R (λ x h. put-other st n w x (λ q. let z = rw q at h in omega arith)) s
-
-  -- one node changes
-  pub holds-upd : (st : Store) (R : Row) (j : ℕ) (f : List Item → List Item) → j < length R → ((x : ℕ) → count x (nums R) ≤ 1) → Holds enc st R →
-      Holds enc (put st (numAt R j) (enc (f (itemsAt R j)))) (upd j f R)
-  holds-upd st [] j f h o s = tt
-  holds-upd st (n ∷ R) zero f h o s =
-      let z = simp (eq-eqb (n .num) (n .num) refl) at (o (n .num)) in
-      (put-same st (n .num) (enc (f (n .items))), frame st (n .num) (enc (f (n .items))) R (omega arith) (s .1))
-  holds-upd st (n ∷ R) (suc j) f h o s =
-      let c = numAt-counts R j (omega arith) in (
-        put-other st (numAt R j) (enc (f (itemsAt R j))) (n .num)
-            (λ q. let z = simp (eq-eqb (n .num) (n .num) refl) at (o (n .num)) in let y = rw (← q) at c in omega arith) ∙ s .0,
-        holds-upd st R j f (omega arith) (λ x. omega (arith, o x)) (s .1),
-      )
-
   -- a node comes
   pub holds-insert : (st : Store) (R : Row) (i : ℕ) (n : Node) → st (n .num) ≡ enc (n .items) → Holds enc st R → Holds enc st (insertAt i n R)
   holds-insert st R zero n e s = (e, s)
@@ -70,13 +32,3 @@ module _ (enc : List Item → List ℕ) where
 pub holds-lead : (f : ℕ) (st : Store) (R : Row) → Holds innerWords st R → Holds innerWords st (leadRow f R)
 holds-lead f st [] s = tt
 holds-lead f st (n ∷ R) s = (s .0 ∙ sym (lead-words f (n .items)), s .1)
-
-pub parts : (x : ℕ) (R : Row) (Rs : List Row) → count x (nums R ++ numbers Rs) ≡ count x (nums R) + count x (numbers Rs)
-parts x R Rs = total-append (λ z. once (eqb x z)) (nums R) (numbers Rs)
-
-pub up-keeps : (st st′ : Store) (Ss : List Row) → ((x : ℕ) → 1 ≤ count x (numbers Ss) → st′ x ≡ st x) → HoldsUp st Ss → HoldsUp st′ Ss
-up-keeps st st′ [] k s = tt
-up-keeps st st′ (S ∷ Ss) k s = (
-  holds-keeps innerWords st st′ S (λ x h. k x (omega (arith, parts x S Ss))) (s .0),
-  up-keeps st st′ Ss (λ x h. k x (omega (arith, parts x S Ss))) (s .1),
-)

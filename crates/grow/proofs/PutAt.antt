@@ -16,7 +16,6 @@ use Rattle.forest.specs.Cursors.{cursorAt, pathOf, seek, leaves}
 use Rattle.forest.specs.declared.Cursor.{Cursor}
 use Rattle.forest.specs.declared.Reply.{Reply}
 use Rattle.forest.specs.declared.Reply.the-variants.{Nothing, Value}
-use Rattle.forest.proofs.ListLaws.{is}
 use Rattle.path.specs.Cores.{Ready, Of, Goes}
 use Rattle.path.proofs.Roots.{trees-are, the-pool}
 use Rattle.grow.specs.Grows

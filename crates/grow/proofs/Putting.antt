@@ -15,7 +15,6 @@ use Rattle.forest.specs.declared.Reply.{Reply}
 use Rattle.forest.specs.declared.Reply.the-variants.{Nothing, Value, Refused}
 use Rattle.forest.specs.declared.Refusal.the-variants.{NoRoom}
 use Rattle.forest.proofs.Reply as ReplyType
-use Rattle.forest.proofs.ListLaws.{is}
 use Rattle.forest.proofs.CountLaws.{nodes-all, node-length}
 use Rattle.pool.specs.Stores.{spell, stackAt, frees, Sixteen}
 use Rattle.pool.proofs.Spell.{encode-spell}

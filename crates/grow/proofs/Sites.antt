@@ -22,12 +22,14 @@ use Rattle.forest.proofs.CountLaws.{nodes-all, node-length}
 use Rattle.forest.proofs.Six.{six-levels}
 use Rattle.pool.proofs.Spell.{encode-spell}
 use Rattle.path.proofs.CursorWords.{node-at, place-at}
-use Rattle.path.proofs.Seats.{up-length, up-at}
+use Rattle.path.proofs.Seats.{up-at}
 use Rattle.grow.specs.Grows
 use Rattle.grow.proofs.Mem
 use Rattle.grow.proofs.Leaves
 use Rattle.grow.proofs.Pooled
 use Rattle.grow.proofs.Climbs.{scene}
+use Rattle.forest.proofs.StandLaws.{length-pathUp}
+use Rattle.forest.proofs.FrameLaws.{some-at}
 
 -- the levels that hold a path lead upward
 along : (ns ps : List ℕ) (i : ℕ) (Rs : List Row) (below : Path) →
@@ -104,7 +106,7 @@ module _ (p : Pools.Pool) (w : Pools.WellFormed leafLeast p) (ws : List ℕ) (sa
     pub land-of : Grows.Land (sceneOf p k L Rs) e ws t tree ns ps (length Rs)
     land-of =
         let q = up-at j Rs (getD (nums L) j 0, e) [] in
-        let s : 1 ≤ length (itemsAt L j) = Leaves.some-at L j (none-empty leafLeast 7 L (omega arith) (good .1)) at in
+        let s : 1 ≤ length (itemsAt L j) = some-at L j (none-empty leafLeast 7 L (omega arith) (good .1)) at in
         record {
           under = under-of;
           node = f (length Rs) (omega (arith, few-rows)) ∙ ap (λ (x : ℕ × ℕ). x .0) q;
@@ -123,7 +125,7 @@ module _ (p : Pools.Pool) (w : Pools.WellFormed leafLeast p) (ws : List ℕ) (sa
     cursor-is = q ∙ rw (lt-ltb 0 (length L) (omega (arith, tower-some L Rs (good .2))))
 
     pub size-is : c .size ≡ suc (length Rs)
-    size-is = ap (λ (d : Cursor). d .size) cursor-is ∙ up-length j Rs ((getD (nums L) j 0, e) ∷ []) ∙ omega arith
+    size-is = ap (λ (d : Cursor). d .size) cursor-is ∙ length-pathUp j Rs ((getD (nums L) j 0, e) ∷ []) ∙ omega arith
 
     pub found-land : Grows.Land (sceneOf p k L Rs) e ws t tree (c .nodes) (c .places) (c .size - 1)
     found-land =

@@ -1,41 +1,15 @@
 -- PROOFS. On the words over a store: a node taken and made a root, and a node cut in two
 use mathlib.Core.Path.{_≡_}
-use mathlib.Core.List.{List, [], _∷_, map}
+use mathlib.Core.List.{List, [], _∷_}
 use Prim.Native.Nat.{ℕ, _-_, _≤_, _<_}
 use native.Mathlib.Omega.{arith}
-use lib.ListN.{length, drop, getD, set, length-append}
-use lib.Dec.{eqb}
-use Rattle.forest.specs.Lists.{pad}
-use Rattle.forest.specs.Pairs.{Item}
-use Rattle.forest.specs.Pools.{leafWords, innerWords}
-use Rattle.forest.proofs.ListLaws.{is, isnt, test}
-use Rattle.forest.proofs.CountLaws.{length-pad}
+use lib.ListN.{length, drop, getD, set}
 use Rattle.pool.specs.Stores.{Store, put, spell, Sixteen, topNode, takenWords}
 use Rattle.pool.proofs.Bridges.{spell-placed, spell-set-root, spell-withBlock}
 use Rattle.pool.proofs.Stacks.{spell-stocked, spell-top, spell-taken}
 use Rattle.grow.specs.Grows.{plantedWords, cutWords, Takes}
-
--- a node's words are sixteen
-pub inner-length : (xs : List Item) → length (innerWords xs) ≡ 16
-inner-length xs =
-    omega (
-      arith,
-      length-append (pad 7 (map (λ (x : Item). x .0) (drop 1 xs))) (pad 8 (map (λ (x : Item). x .1) xs)),
-      length-pad 7 (map (λ (x : Item). x .0) (drop 1 xs)),
-      length-pad 8 (map (λ (x : Item). x .1) xs),
-    )
-
-pub leaf-length : (xs : List Item) → length (leafWords xs) ≡ 16
-leaf-length xs =
-    omega (
-      arith,
-      length-append (pad 7 (map (λ (x : Item). x .0) xs)) (pad 8 (map (λ (x : Item). x .1) xs)),
-      length-pad 7 (map (λ (x : Item). x .0) xs),
-      length-pad 8 (map (λ (x : Item). x .1) xs),
-    )
-
-pub put-sixteen : (st : Store) (n : ℕ) (w : List ℕ) → Sixteen st → length w ≡ 16 → Sixteen (put st n w)
-put-sixteen st n w s h x = elim (test (eqb x n)) [ is e ↦ simp e h | isnt e ↦ simp e (s x) ]
+pub use Rattle.pool.proofs.Held.{put-sixteen}
+pub use Rattle.forest.proofs.CountLaws.{leaf-length, inner-length}
 
 module _ (roots : List ℕ) (N : ℕ) (st : Store) (s : Sixteen st) where
   -- the top of the stack can be taken

@@ -6,12 +6,12 @@ use Prim.Native.Nat.{ℕ, suc, _+_, _-_, _≤_, _<_}
 use native.Mathlib.Omega.{arith}
 use lib.ListN.{length, take, drop, getD, set, length-drop}
 use lib.Seq.{set-getD}
-use Rattle.forest.specs.Lists.{insertAt, once, count, parent, offset}
+use Rattle.forest.specs.Lists.{insertAt, count, parent, offset}
 use Rattle.forest.specs.Pairs.{Item}
 use Rattle.forest.specs.Rows.{Row, front, sizes, itemsAt, keeps, full}
 use Rattle.forest.specs.Trees.{numbers, needUp}
 use Rattle.forest.specs.Pools.{innerWords, rootAbove}
-use Rattle.forest.proofs.ListLaws.{is, drop-one}
+use Rattle.forest.proofs.ListLaws.{drop-one}
 use Rattle.forest.proofs.RowLaws.{keeps-fits}
 use Rattle.pool.specs.Stores.{Store, put, spell, block, withBlock, topNode}
 use Rattle.pool.proofs.Bridges.{spell-length, spell-root, spell-withBlock}

@@ -13,7 +13,7 @@ use Rattle.forest.specs.Rows.{Row, node, size, front, nums, sizes, joined, line
 use Rattle.forest.specs.Trees.{numbers, seat, growUp, needUp}
 use Rattle.forest.specs.Pools.{innerWords, rootAbove}
 use Rattle.forest.proofs.ListLaws.{is, isnt, test, total-insertAt, parent-lt, offset-lt, parent-start}
-use Rattle.forest.proofs.RowLaws.{sum-sizes, length-line, length-items, putRow-joined, putRow-room, putRow-full, putRow-fill, keeps-fits, rekey-nums}
+use Rattle.forest.proofs.RowLaws.{sum-sizes, length-line, length-items, putRow-joined, putRow-room, putRow-full, putRow-fill, keeps-fits}
 use Rattle.forest.proofs.TreeLaws.{NoneEmpty, none-empty}
 use Rattle.forest.proofs.TowerLaws
 use Rattle.pool.specs.Stores.{Store, put}
@@ -22,6 +22,7 @@ use Rattle.grow.specs.Grows.{numAt, Holds, HoldsUp, leftPart, rightPart,
 use Rattle.grow.proofs.Lead
 use Rattle.grow.proofs.Change
 use Rattle.grow.proofs.Mem
+use Rattle.forest.proofs.FrameLaws.{root-refresh}
 
 abbrev leftOf : ℕ → Item → List Item → List Item
 leftOf o x ys = leftPart 8 (suc o) x ys
@@ -37,10 +38,6 @@ up-lead f R R′ (S ∷ Ss) st w e s =
     let a : joined (Lead.leadRow f S) ≡ line R′ = Lead.lead-joined f S some ∙ ap (Lead.lead f) (w .1) ∙ sym e in
     let b : rekey (line R′) S ≡ Lead.leadRow f S = ap (λ (xs : List Item). rekey xs S) (sym a) ∙ Lead.rekey-like (Lead.leadRow f S) S (sym (Lead.lead-sizes f S)) (sym (Lead.lead-nums f S)) in
     rw b (Mem.holds-lead f st S (s .0), up-lead f S (Lead.leadRow f S) Ss st (w .3) (Lead.lead-line f S some) (s .1))
-
-pub root-refresh : (R R′ : Row) (Rs : List Row) → nums R′ ≡ nums R → rootAbove R′ (refresh R′ Rs) ≡ rootAbove R Rs
-root-refresh R R′ [] e = ap (λ (xs : List ℕ). getD xs 0 0) e
-root-refresh R R′ (S ∷ Ss) e = root-refresh S (rekey (line R′) S) Ss (rekey-nums (line R′) S)
 
 -- one row: the item x comes right of the i-th, and the seats of the definition are filled in from the row below
 module _ (f : ℕ) (R R′ S : Row) (Ss : List Row) (i : ℕ) (x : Item) (new : ℕ) (w : Tower R (S ∷ Ss)) (b : i < length R)
@@ -117,7 +114,7 @@ pub cut-holds : (enc : List Item → List ℕ) (st : Store) (S : Row) (j new : �
     Holds enc (cutStore enc (numAt S j) (g (itemsAt S j)) new rs st) (insertAt (suc j) (node new rs) (Change.upd j g S))
 cut-holds enc st S j new g rs h o z s =
     Mem.holds-insert enc _ (Change.upd j g S) (suc j) (node new rs) (put-same (put st (numAt S j) (enc (g (itemsAt S j)))) new (enc rs))
-    (Mem.frame enc (put st (numAt S j) (enc (g (itemsAt S j)))) new (enc rs) (Change.upd j g S) (rw (Change.upd-nums j g S) z) (Mem.holds-upd enc st S j g h o s))
+    (Mem.frame enc (put st (numAt S j) (enc (g (itemsAt S j)))) new (enc rs) (Change.upd j g S) (rw (Change.upd-nums j g S) z) (Mem.holds-upd enc st S j g _ h o refl s))
 
 -- it changes nothing but the two
 pub cut-keeps : (enc : List Item → List ℕ) (st : Store) (a : ℕ) (ls : List Item) (b : ℕ) (rs : List Item) (y : ℕ) → (y ≡ a → ⊥) → (y ≡ b → ⊥) → cutStore enc a ls b rs st y ≡ st y
@@ -176,7 +173,7 @@ module _ (f : ℕ) (R R′ S : Row) (Ss : List Row) (i : ℕ) (x : Item) (new : 
       let st′ = put st (numAt S p) (innerWords (insertAt (suc o) x (itemsAt S p))) in
       let one = Mem.numAt-counts S p at in
       rw (seated f R R′ S Ss i x new w b e) (
-        Mem.holds-lead f _ T (rw (room-row f R R′ S Ss i x new w b e q) (Mem.holds-upd innerWords st S p (insertAt (suc o) x) at (λ y. omega (arith, once y)) (s .0))),
+        Mem.holds-lead f _ T (rw (room-row f R R′ S Ss i x new w b e q) (Mem.holds-upd innerWords st S p (insertAt (suc o) x) _ at (λ y. omega (arith, once y)) refl (s .0))),
         up-lead f S (Lead.leadRow f T) Ss _ (w .3) (room-line f R R′ S Ss i x new w b e q)
             (Mem.up-keeps st _ Ss (λ y h. put-other st (numAt S p) _ y (λ z. let u = rw z at h in omega (arith, once (numAt S p)))) (s .1)),
       )

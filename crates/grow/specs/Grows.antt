@@ -10,6 +10,7 @@ use Rattle.forest.specs.Pairs.{Item}
 use Rattle.forest.specs.Rows.{Row, front, nums, sizes, itemsAt, keeps, full, Tower}
 use Rattle.forest.specs.Trees.{numbers, needUp}
 use Rattle.forest.specs.Pools.{leafWords, innerWords, rootAbove}
+pub use Rattle.pool.specs.Stores.{numAt, Holds, HoldsUp}
 use Rattle.pool.specs.Stores.{Store, put, spell, Sixteen, withBlock, topNode, takenWords, Stocked, Placed}
 
 -- Words
@@ -21,22 +22,6 @@ plantedWords ws t tree w = set (withBlock (takenWords ws t) t (topNode ws t) w) 
 -- the words with node n cut: `left` stays in n, `right` goes to the top of the stack
 unfoldable pub cutWords : List ℕ → ℕ → ℕ → List ℕ → List ℕ → List ℕ
 cutWords ws t n left right = withBlock (withBlock (takenWords ws t) t n left) t (topNode ws t) right
-
--- Rows in a store
-
--- the number of the j-th node
-abbrev pub numAt : Row → ℕ → ℕ
-numAt R j = getD (nums R) j 0
-
--- the store has the words of every node of the row
-abbrev pub Holds : (List Item → List ℕ) → Store → Row → Type 0
-Holds words st [] = Unit {0}
-Holds words st (n ∷ R) = (st (n .num) ≡ words (n .items)) × Holds words st R
-
--- and of the rows above the leaves
-abbrev pub HoldsUp : Store → List Row → Type 0
-HoldsUp st [] = Unit {0}
-HoldsUp st (S ∷ Ss) = Holds innerWords st S × HoldsUp st Ss
 
 -- what a full node of c keeps that gets x at place p, and what goes to its new right neighbour
 abbrev pub leftPart : ℕ → ℕ → Item → List Item → List Item
@@ -172,7 +157,7 @@ landedWords s p tree x =
     (leafStore (s .at) p x (s .free) (s .row) (s .rows) (s .store))
     (drop (leafNeed s) (s .free))
 
--- What helpers ask of the words
+-- What the functions ask of the words
 
 -- the top of the stack can be taken, and has its place
 pub record Takes (ws : List ℕ) (t : ℕ) : Type 0 where

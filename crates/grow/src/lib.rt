@@ -1,8 +1,7 @@
 // Putting an entry in, as the crate's path.rs has it: the need counted from the path, and then insertion with nodes cut upward.
 ghost use mathlib.Core.Path.{_≡_};
-ghost use mathlib.Core.List.{List, [], _∷_};
-ghost use Prim.Native.Nat.{ℕ, suc, _+_, _-_, _≤_, _<_};
-ghost use lib.ListN.{length, getD};
+ghost use Prim.Native.Nat.{ℕ, _+_, _-_, _≤_, _<_};
+ghost use lib.ListN.{length};
 ghost use Rattle.forest.specs.Trees.{needUp};
 ghost use Rattle.pool.specs.Stores.{topNode};
 ghost use Rattle.path.specs.Cores.{Ready};

@@ -1,36 +1,39 @@
 -- PROOFS. The cycle of three: each call finds what it asks, and each return is a step of its definition
-use mathlib.Core.Path.{_≡_, refl, sym, ap, _∙_, subst}
+use mathlib.Core.Path.{_≡_, refl, sym, _∙_, subst}
 use mathlib.Core.List.{List, [], _∷_, _++_}
-use mathlib.Core.Bool.{Bool, true, false, cond, _&&_}
-use mathlib.Core.Option.{Option, none, some}
+use mathlib.Core.Bool.{Bool, true, false, _&&_}
+use mathlib.Core.Option.{Option, some}
 use Prim.Native.Nat.{ℕ, zero, suc, _+_, _-_, _*_, _≤_, _<_}
 use native.Mathlib.Omega.{arith}
-use lib.ListN.{length, getD, set}
+use lib.ListN.{length, getD}
 use lib.Dec.{ltb, leb, eqb}
-use borrow.Author.Tests.{lt-ltb, le-ltb, ltb-true, ltb-false, leb-true, leb-false, eq-eqb, ne-eqb, eqb-true, eqb-false}
-use Rattle.forest.specs.Lists.{once, total, count, parent, offset, sum}
+use borrow.Author.Tests.{ltb-true, ltb-false, leb-true, eq-eqb, ne-eqb}
+use Rattle.forest.specs.Lists.{once, count, parent}
 use Rattle.forest.specs.Pairs.{Item}
-use Rattle.forest.specs.Rows.{Row, nums, sizes, itemsAt}
+use Rattle.forest.specs.Rows.{nums, sizes}
 use Rattle.forest.specs.Trees.{numbers}
 use Rattle.forest.specs.declared.Cursor.{Cursor}
-use Rattle.forest.proofs.ListLaws.{Test, is, isnt, test, total-append}
+use Rattle.forest.proofs.ListLaws.{is, isnt, test, total-append}
 use Rattle.pool.specs.Stores.{Store, put, freedWords, noWords, Freeable}
 use Rattle.node.specs.Nodes.{statusOf}
 use Rattle.node.specs.declared.Removed.{Removed}
 use Rattle.node.specs.declared.Removed.the-variants.{Healthy, Rightmost, Underflow, Empty}
-use Rattle.heal.specs.States.{State, innerOps, rightSibling, healLevel, underflowed, underWith, emptyNode, emptyFrom, parentCut, freeNode, nextNode, settled, stored, lives}
-use Rattle.heal.specs.Wounds.{numAt, Emptied, Wounded, Left, alive, dead, cutRow}
-use Rattle.heal.specs.Asks.{Mem, moved, Spelt, Way, Leaves, Finds, Settles, nearOf}
-use Rattle.heal.specs.Cycle.{Kind, innerKind, emptied, left, standing, fits, gathered, shared, stayed, healed, under, AskEmpty, AskHeal, AskJoin, Joined, Cuts, Mends}
-use Rattle.heal.specs.declared.Near.{Near}
-use Rattle.heal.proofs.HealMem
-use Rattle.heal.proofs.HealPath
+use Rattle.crit.specs.States.{State, rightSibling, nextNode, settled, stored}
+use Rattle.crit.specs.Paths.{numAt}
+use Rattle.crit.specs.Asks.{Mem, moved, Spelt, Way, Leaves, Finds, Settles}
+use Rattle.crit.specs.declared.Near.{Near}
+use Rattle.heal.specs.Steps.{innerOps, healLevel, underWith, emptyNode, emptyFrom, parentCut, freeNode}
+use Rattle.heal.specs.Wounds.{Emptied, Wounded, alive, dead, cutRow}
+use Rattle.heal.specs.Cycle.{Kind, innerKind, emptied, left, standing, fits, gathered, stayed, healed, under, AskEmpty, AskHeal, Joined, Cuts, Mends}
+use Rattle.crit.proofs.HealMem
+use Rattle.crit.proofs.HealPath
+use Rattle.crit.proofs.SpeltLaws.{same-count}
+use Rattle.crit.proofs.RightLaws.{near-some, near-none}
+use Rattle.crit.proofs.NextLaws.{spelt-off}
 use Rattle.heal.proofs.HealUp.{Lawful}
 use Rattle.heal.proofs.HealReady.{ready-cut, ready-none, ready-merge, par-in, len-C, pathC, once-row}
 use Rattle.heal.proofs.InnerOps.{inner-law}
-use Rattle.heal.proofs.SpeltLaws.{upto-one, spelt-freeable, spelt-freed, same-count, same-free, room, within-named}
-use Rattle.heal.proofs.RightLaws.{near-some, near-none}
-use Rattle.heal.proofs.NextLaws.{spelt-off}
+use Rattle.heal.proofs.FreeLaws.{upto-one, spelt-freeable, spelt-freed, same-free, room, within-named}
 
 clash : _≡_ {A = ℕ} 0 1 → ⊥
 clash z = omega arith
@@ -125,7 +128,7 @@ module _ (k : Kind) where
 
         ups : HealMem.HoldsUp st′ (a .ready .rows)
         ups =
-            HealMem.up-keeps (a .mem .s .st) st′ (nums (a .ready .row)) (a .ready .rows) keeps
+            HealMem.up-apart (a .mem .s .st) st′ (nums (a .ready .row)) (a .ready .rows) keeps
             (HealMem.once-append (nums (a .ready .row)) (numbers (a .ready .rows)) (once-row law (a .mem .count) level (a .mem .s) (a .ready))) (a .ready .up)
 
     pub heal-way : Way ws t c level
@@ -224,7 +227,7 @@ module _ {ws : List ℕ} {t : ℕ} {c : Cursor} {level : ℕ} (a : AskEmpty ws t
     inside = a .ready .inside;
     stacked = a .ready .stacked;
     named = λ x h. within-named (a .mem .count) (numAt (a .ready .row) (a .ready .at) ∷ numbers (a .ready .rows)) (a .mem .s .free) (a .ready .within) x (omega arith);
-    up = rw gone-is (HealMem.up-keeps (a .mem .s .st) (put (a .mem .s .st) (numAt (a .ready .row) (a .ready .at)) noWords) (numAt (a .ready .row) (a .ready .at) ∷ []) (a .ready .rows)
+    up = rw gone-is (HealMem.up-apart (a .mem .s .st) (put (a .mem .s .st) (numAt (a .ready .row) (a .ready .at)) noWords) (numAt (a .ready .row) (a .ready .at) ∷ []) (a .ready .rows)
         (HealMem.put-keeps (a .mem .s .st) (numAt (a .ready .row) (a .ready .at)) noWords (numAt (a .ready .row) (a .ready .at) ∷ [])
         (simp (eq-eqb (numAt (a .ready .row) (a .ready .at)) (numAt (a .ready .row) (a .ready .at)) refl) (omega arith)))
         (λ x. omega (arith, a .ready .within x, upto-one (leb 1 x && leb x (a .mem .count)))) (a .ready .up));

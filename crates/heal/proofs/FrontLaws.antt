@@ -1,31 +1,30 @@
 -- PROOFS. The front key of a cut leaf, and remove_pair as a whole
-use mathlib.Core.Path.{_≡_, refl, sym, ap, _∙_, subst}
-use mathlib.Core.List.{List, [], _∷_, _++_}
-use mathlib.Core.Bool.{Bool, true, false, cond}
-use Prim.Native.Nat.{ℕ, zero, suc, _+_, _-_, _*_, _≤_, _<_}
+use mathlib.Core.Path.{_≡_, sym, ap, _∙_, subst}
+use mathlib.Core.List.{List, _++_}
+use mathlib.Core.Bool.{true, false}
+use Prim.Native.Nat.{ℕ, _+_, _-_, _≤_, _<_}
 use native.Mathlib.Omega.{arith}
 use lib.ListN.{length, getD}
 use lib.Dec.{eqb}
 use borrow.Author.Tests.{eq-eqb, ne-eqb}
-use Rattle.forest.specs.Lists.{parent, offset}
-use Rattle.forest.specs.Pairs.{Item}
-use Rattle.forest.specs.Rows.{Row, nums, sizes}
+use Rattle.forest.specs.Rows.{nums}
 use Rattle.forest.specs.Trees.{numbers}
 use Rattle.forest.specs.Pools.{leafWords}
 use Rattle.forest.specs.declared.Cursor.{Cursor}
 use Rattle.pool.specs.Stores.{block, Placed}
 use Rattle.node.specs.Nodes.{statusOf}
 use Rattle.node.specs.declared.Removed.{Removed}
-use Rattle.heal.specs.States.{State, leafOps, innerOps, leafFront, fronted, leftSet, stored, parentCut, taken}
+use Rattle.crit.specs.States.{State, leftSet, stored}
+use Rattle.crit.specs.Asks.{Mem, moved, Spelt, Leaves}
+use Rattle.heal.specs.Steps.{leafOps, innerOps, leafFront, fronted, parentCut, taken}
 use Rattle.heal.specs.Wounds.{Wounded}
-use Rattle.heal.specs.Asks.{Mem, moved, Spelt, Way, Leaves}
 use Rattle.heal.specs.Cycle.{Kind, leafKind, left, standing, healed, AskFront, AskHeal, Cuts, Mends, Stood}
+use Rattle.crit.proofs.SpeltLaws.{spelt-block, spelt-placed, same-count}
 use Rattle.heal.proofs.HealTree.{front-wounded, front-words, front-path}
 use Rattle.heal.proofs.HealReady.{within-once}
 use Rattle.heal.proofs.InnerOps.{inner-law}
 use Rattle.heal.proofs.LeafOps.{leaf-front}
 use Rattle.heal.proofs.LeafLaws.{leaf-law, leaf-named}
-use Rattle.heal.proofs.SpeltLaws.{spelt-block, spelt-placed, same-count}
 
 -- update_front
 module _ {ws : List ℕ} {t : ℕ} {c : Cursor} {level : ℕ} (a : AskFront ws t c level) where
@@ -85,7 +84,7 @@ module _ {ws vs us : List ℕ} {t : ℕ} {c : Cursor} {level : ℕ} {status : Re
   sp2 : Spelt us t c (moved (a .mem) sF)
   sp2 = f .run (moved (a .mem) sB) sp1
 
-  once : Rattle.heal.proofs.HealMem.Once (nums (a .row) ++ numbers (a .rows))
+  once : Rattle.crit.proofs.HealMem.Once (nums (a .row) ++ numbers (a .rows))
   once = within-once (a .mem .count) (nums (a .row) ++ numbers (a .rows)) (a .mem .s .free) (a .within)
 
   at-level : (P : ℕ → Type 0) → P (length (a .rows)) → P level

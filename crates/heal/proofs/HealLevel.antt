@@ -1,29 +1,31 @@
 -- PROOFS. heal_level: the cases, by what is left in the node and by its right neighbour
-use mathlib.Core.Path.{_≡_, refl, sym, ap, _∙_, subst}
-use mathlib.Core.List.{List, [], _∷_, _++_, append-assoc, append-nil, map}
-use mathlib.Core.Bool.{Bool, true, false, cond, true≢false}
-use mathlib.Core.Option.{Option, none, some}
-use Prim.Native.Nat.{ℕ, zero, suc, _+_, _-_, _*_, _≤_, _<_, _/_, min}
+use mathlib.Core.Path.{_≡_, refl, sym, ap, _∙_}
+use mathlib.Core.List.{List, [], _∷_, _++_}
+use mathlib.Core.Bool.{true, false}
+use mathlib.Core.Option.{some}
+use Prim.Native.Nat.{ℕ, suc, _+_, _-_, _*_, _≤_, _<_}
 use native.Mathlib.Omega.{arith}
-use native.Mathlib.Nat.{zero-add, suc-add}
-use lib.ListN.{length, take, drop, getD, set, length-append, length-map, length-take, length-drop}
+use lib.ListN.{length, take, drop, getD, length-append, length-map, length-take}
 use lib.Dec.{ltb, eqb, leb}
-use borrow.Author.Tests.{lt-ltb, le-ltb, ltb-true, ltb-false, eqb-true, eqb-false, eq-eqb, ne-eqb, le-leb, lt-leb, leb-true, leb-false}
-use Rattle.forest.specs.Lists.{insertAt, removeAt, sum, once, total, count, pad, parent, offset}
+use borrow.Author.Tests.{lt-ltb, le-ltb, ltb-true, ltb-false, eqb-true, eqb-false, eq-eqb, ne-eqb, lt-leb, leb-true, leb-false}
+use Rattle.forest.specs.Lists.{removeAt, sum, once, count, pad, parent, offset}
 use Rattle.forest.specs.Pairs.{Item}
-use Rattle.forest.specs.Rows.{Node, Row, node, size, front, nums, sizes, joined, line, itemsAt, Fill, least, dropRow, alone, heal, without}
-use Rattle.forest.specs.Trees.{numbers, dropAt, dropUp, freedUp, lost}
-use Rattle.forest.specs.Pools.{innerWords, pushAll}
-use Rattle.forest.proofs.ListLaws.{Test, is, isnt, test, tests, total-append, parent-lt, offset-lt, parent-start, length-removeAt, cons-eq, map-append}
-use Rattle.forest.proofs.RowLaws.{sum-sizes, length-line, length-items, fill-at, dropRow-joined, dropRow-fill}
-use Rattle.heal.proofs.HealRows
-use Rattle.heal.proofs.HealStack
-use Rattle.heal.proofs.HealMem
-use Rattle.heal.proofs.HealPath
+use Rattle.forest.specs.Rows.{Row, size, front, nums, sizes, joined, line, itemsAt, Fill, dropRow}
+use Rattle.forest.specs.Trees.{numbers, lost}
+use Rattle.forest.proofs.ListLaws.{is, isnt, test, total-append, parent-lt, offset-lt, parent-start, length-removeAt}
+use Rattle.forest.proofs.RowLaws.{sum-sizes, length-items, fill-at, dropRow-joined}
+use Rattle.crit.specs.States.{State, stored, lives, nextNode}
+use Rattle.heal.specs.Steps.{Ops, healLevel}
+use Rattle.crit.proofs.HealRows
+use Rattle.crit.proofs.HealStack
+use Rattle.crit.proofs.HealMem
+use Rattle.crit.proofs.HealPath
+use Rattle.crit.proofs.HealNext
+use Rattle.heal.proofs.HealMend
 use Rattle.heal.proofs.HealStep
-use Rattle.heal.specs.States.{State, Ops, freeNode, stored, lives, nodeAt, nextWith, nextNode, settled, underWith, underflowed, healLevel, parentCut, emptyFrom, emptyWith, emptyNode}
-use Rattle.heal.specs.Wounds.{Left, alive, dead, Wounded, Within}
-use Rattle.heal.proofs.HealShape.{Lawful, Where, here, past, Exit, Heals, Mended, sizes-before, sizes-before-next, sizes-before-remove, merged-size, items-next, row-removeAt, drop-shape, some-upd, not-last, front-take, front-append, dropUp-shape, freedUp-shape, least-of, two-nodes, remove-upd}
+use Rattle.heal.proofs.HealShape.{Lawful, here, past, Exit, Heals, Mended, sizes-before, sizes-before-next, sizes-before-remove, merged-size, items-next, some-upd, not-last, front-take, dropUp-shape, freedUp-shape, least-of, two-nodes, remove-upd}
+use Rattle.forest.proofs.Descent.{front-append}
+use Rattle.forest.proofs.Sentences.{fill-inside}
 
 -- The cases of heal_level
 module _ {enc : List Item → List ℕ} {cap low : ℕ} {o : Ops} (law : Lawful o enc cap low) (up : State → State) (i : ℕ) (S : Row) (Ss : List Row)
@@ -52,8 +54,8 @@ module _ {enc : List Item → List ℕ} {cap low : ℕ} {o : Ops} (law : Lawful 
   cut-sum : suc (sum (sizes C)) ≡ sum (sizes S)
   cut-sum = omega (arith, sum-sizes C, sum-sizes S, ap length (HealRows.cut-joined S i b), length-removeAt i (joined S) (omega (arith, sum-sizes S)))
 
-  drop-is : dropRow cap (parent (sizes S) i) (offset (sizes S) i) S ≡ HealRows.mend cap (parent (sizes S) i) C
-  drop-is = HealRows.drop-mend cap (parent (sizes S) i) (offset (sizes S) i) S
+  drop-is : dropRow cap (parent (sizes S) i) (offset (sizes S) i) S ≡ HealMend.mend cap (parent (sizes S) i) C
+  drop-is = HealMend.drop-mend cap (parent (sizes S) i) (offset (sizes S) i) S
 
   sum-drop : suc (sum (sizes (dropRow cap (parent (sizes S) i) (offset (sizes S) i) S))) ≡ sum (sizes S)
   sum-drop =
@@ -65,7 +67,7 @@ module _ {enc : List Item → List ℕ} {cap low : ℕ} {o : Ops} (law : Lawful 
   apart = HealMem.once-append (nums S) (numbers Ss) once
 
   pathC : HealPath.Path C (parent (sizes S) i) Ss (s .ns) (s .ps)
-  pathC = HealStep.path-shape S C (parent (sizes S) i) (s .ns) (s .ps) (sym (HealRows.upd-numAt (parent (sizes S) i) (parent (sizes S) i) (removeAt (offset (sizes S) i)) S)) (HealStack.same-refl Ss) path
+  pathC = HealNext.path-shape S C (parent (sizes S) i) (s .ns) (s .ps) (sym (HealRows.upd-numAt (parent (sizes S) i) (parent (sizes S) i) (removeAt (offset (sizes S) i)) S)) (HealStack.same-refl Ss) path
 
   -- an item is left
   module _ (some-left : 1 ≤ left-over) (stacked : HealStack.Stacked C Ss) (row : HealMem.Holds enc (s .st) C) where
@@ -120,7 +122,7 @@ module _ {enc : List Item → List ℕ} {cap low : ℕ} {o : Ops} (law : Lawful 
         let q = HealStep.spot-next (sizes S) (sizes C) i (sizes-before (parent (sizes S) i) (removeAt (offset (sizes S) i)) S) (over-at ∙ sym h)
         (some-upd (parent (sizes S) i) (removeAt (offset (sizes S) i)) S big some-left) (rw (length-map C size) n2) in
         let n = not-last (sizes S) i big b (rw (length-map S size) e) in
-        let np = HealStep.next-path (s .st) (s .ns) (s .ps) C (parent (sizes S) i) Ss n2 stacked hu pathC in
+        let np = HealNext.next-path (s .st) (s .ns) (s .ps) C (parent (sizes S) i) Ss n2 stacked hu pathC in
         rw r (record {
           rows = Ss;
           shape = HealStack.same-refl Ss;
@@ -130,12 +132,12 @@ module _ {enc : List Item → List ℕ} {cap low : ℕ} {o : Ops} (law : Lawful 
           keeps = λ x c. refl;
           zeros = λ x c d. absurd (let z = rw (HealRows.upd-nums (parent (sizes S) i) (removeAt (offset (sizes S) i)) S) at d in omega arith);
           free = refl;
-          deeper = λ l d. (HealStep.next-deeper (s .st) (s .ns) (s .ps) (length Ss) l) .0 d;
-          places = λ l d. simp (ne-eqb l (length Ss) (omega arith)) ((HealStep.next-deeper (s .st) (s .ns) (s .ps) (length Ss) l) .1 (omega arith));
+          deeper = λ l d. (HealNext.next-deeper (s .st) (s .ns) (s .ps) (length Ss) l) .0 d;
+          places = λ l d. simp (ne-eqb l (length Ss) (omega arith)) ((HealNext.next-deeper (s .st) (s .ns) (s .ps) (length Ss) l) .1 (omega arith));
           stands = here (omega (arith, cut-sum)) (
             simp (eq-eqb (length Ss) (length Ss) refl) (sym (q .1)),
-            rw (q .0) (HealStep.path-deeper C (suc (parent (sizes S) i)) Ss ((HealStep.nextAt (s .st) (s .ns) (s .ps) (length Ss)) .0) ((HealStep.nextAt (s .st) (s .ns) (s .ps) (length Ss)) .1)
-                ((HealStep.nextAt (s .st) (s .ns) (s .ps) (length Ss)) .0) (HealStep.at ((HealStep.nextAt (s .st) (s .ns) (s .ps) (length Ss)) .1) (length Ss) 0)
+            rw (q .0) (HealNext.path-deeper C (suc (parent (sizes S) i)) Ss ((HealNext.nextAt (s .st) (s .ns) (s .ps) (length Ss)) .0) ((HealNext.nextAt (s .st) (s .ns) (s .ps) (length Ss)) .1)
+                ((HealNext.nextAt (s .st) (s .ns) (s .ps) (length Ss)) .0) (HealNext.at ((HealNext.nextAt (s .st) (s .ns) (s .ps) (length Ss)) .1) (length Ss) 0)
                 (λ l d. refl) (λ l d. simp (ne-eqb l (length Ss) (omega arith))) np),
           ) refl;
         })
@@ -176,45 +178,45 @@ module _ {enc : List Item → List ℕ} {cap low : ℕ} {o : Ops} (law : Lawful 
       u = xs ++ ys
 
       abbrev C1 : Row
-      C1 = HealRows.upd (parent (sizes S) i) (λ _. take (HealRows.keep u) u) C
+      C1 = HealRows.upd (parent (sizes S) i) (λ _. take (HealMend.keep u) u) C
 
       abbrev st1 : HealMem.Store
-      st1 = HealMem.put (s .st) (HealRows.numAt C (parent (sizes S) i)) (enc (take (HealRows.keep u) u))
+      st1 = HealMem.put (s .st) (HealRows.numAt C (parent (sizes S) i)) (enc (take (HealMend.keep u) u))
 
       abbrev st2 : HealMem.Store
-      st2 = HealPath.rightSet (HealMem.put st1 (HealRows.numAt C1 (suc (parent (sizes S) i))) (enc (drop (HealRows.keep u) u))) (s .ns) (s .ps) (length Ss) (front (drop (HealRows.keep u) u))
+      st2 = HealPath.rightSet (HealMem.put st1 (HealRows.numAt C1 (suc (parent (sizes S) i))) (enc (drop (HealMend.keep u) u))) (s .ns) (s .ps) (length Ss) (front (drop (HealMend.keep u) u))
 
       C-in : parent (sizes S) i < length C
       C-in = omega (arith, length-C, par-in)
 
       n1 : suc (parent (sizes S) i) < length C1
-      n1 = rw (HealRows.upd-length (parent (sizes S) i) (λ _. take (HealRows.keep u) u) C) nextC
+      n1 = rw (HealRows.upd-length (parent (sizes S) i) (λ _. take (HealMend.keep u) u) C) nextC
 
-      shares : 2 * left-over < cap → cap < left-over + length ys → Mended enc (HealRows.shareAt (parent (sizes S) i) u C) false i S Ss s (stored s st2)
+      shares : 2 * left-over < cap → cap < left-over + length ys → Mended enc (HealMend.shareAt (parent (sizes S) i) u C) false i S Ss s (stored s st2)
       shares low high =
-          let k = front (drop (HealRows.keep u) u) in
+          let k = front (drop (HealMend.keep u) u) in
           let lu : length u ≡ left-over + length ys = length-append xs ys ∙ ap (_+ length ys) xs-length in
-          let large : left-over < HealRows.keep u = omega arith in
+          let large : left-over < HealMend.keep u = omega arith in
           let row1 : HealMem.Holds enc st1 C1 =
-          HealMem.holds-upd enc (s .st) C (parent (sizes S) i) (λ _. take (HealRows.keep u) u) (enc (take (HealRows.keep u) u)) C-in (λ x. omega (arith, (HealMem.once-append (nums C) (numbers Ss) onceC) x)) refl row in
-          let keeps1 : HealMem.Keeps (s .st) st1 (nums C) = HealMem.put-keeps (s .st) (HealRows.numAt C (parent (sizes S) i)) (enc (take (HealRows.keep u) u)) (nums C) (HealMem.numAt-counts C (parent (sizes S) i) C-in) in
-          let up1 : HealMem.HoldsUp st1 Ss = HealMem.up-keeps (s .st) st1 (nums C) Ss keeps1 (HealMem.once-append (nums C) (numbers Ss) onceC) hu in
-          let f1 : front (take (HealRows.keep u) u) ≡ front xs = front-take (HealRows.keep u) u (omega arith) ∙ front-append xs ys (omega (arith, xs-length)) in
-          let line1 : line C1 ≡ line C = HealStack.line-keep (parent (sizes S) i) (λ _. take (HealRows.keep u) u) C C-in f1 in
+          HealMem.holds-upd enc (s .st) C (parent (sizes S) i) (λ _. take (HealMend.keep u) u) (enc (take (HealMend.keep u) u)) C-in (λ x. omega (arith, (HealMem.once-append (nums C) (numbers Ss) onceC) x)) refl row in
+          let keeps1 : HealMem.Keeps (s .st) st1 (nums C) = HealMem.put-keeps (s .st) (HealRows.numAt C (parent (sizes S) i)) (enc (take (HealMend.keep u) u)) (nums C) (HealMem.numAt-counts C (parent (sizes S) i) C-in) in
+          let up1 : HealMem.HoldsUp st1 Ss = HealMem.up-apart (s .st) st1 (nums C) Ss keeps1 (HealMem.once-append (nums C) (numbers Ss) onceC) hu in
+          let f1 : front (take (HealMend.keep u) u) ≡ front xs = front-take (HealMend.keep u) u (omega arith) ∙ front-append xs ys (omega (arith, xs-length)) in
+          let line1 : line C1 ≡ line C = HealStack.line-keep (parent (sizes S) i) (λ _. take (HealMend.keep u) u) C C-in f1 in
           let stacked1 : HealStack.Stacked C1 Ss = HealStack.stacked-line C C1 Ss (HealStack.alike-same (sym line1)) stacked in
           let path1 : HealPath.Path C1 (parent (sizes S) i) Ss (s .ns) (s .ps) =
-          HealStep.path-shape C C1 (parent (sizes S) i) (s .ns) (s .ps) (sym (HealRows.upd-numAt (parent (sizes S) i) (parent (sizes S) i) (λ _. take (HealRows.keep u) u) C)) (HealStack.same-refl Ss) pathC in
-          let once1 : HealMem.Once (nums C1 ++ numbers Ss) = rw (HealRows.upd-nums (parent (sizes S) i) (λ _. take (HealRows.keep u) u) C) onceC in
-          let g : List Item → List Item = λ _. drop (HealRows.keep u) u in
-          let w = enc (drop (HealRows.keep u) u) in
-          let M = HealRows.shareAt (parent (sizes S) i) u C in
-          let k = front (drop (HealRows.keep u) u) in
-          let is-M : dropRow cap (parent (sizes S) i) (offset (sizes S) i) S ≡ M = drop-is ∙ HealRows.mend-shares cap (parent (sizes S) i) C (omega (arith, xs-length)) nextC (omega (arith, xs-length)) in
+          HealNext.path-shape C C1 (parent (sizes S) i) (s .ns) (s .ps) (sym (HealRows.upd-numAt (parent (sizes S) i) (parent (sizes S) i) (λ _. take (HealMend.keep u) u) C)) (HealStack.same-refl Ss) pathC in
+          let once1 : HealMem.Once (nums C1 ++ numbers Ss) = rw (HealRows.upd-nums (parent (sizes S) i) (λ _. take (HealMend.keep u) u) C) onceC in
+          let g : List Item → List Item = λ _. drop (HealMend.keep u) u in
+          let w = enc (drop (HealMend.keep u) u) in
+          let M = HealMend.shareAt (parent (sizes S) i) u C in
+          let k = front (drop (HealMend.keep u) u) in
+          let is-M : dropRow cap (parent (sizes S) i) (offset (sizes S) i) S ≡ M = drop-is ∙ HealMend.mend-shares cap (parent (sizes S) i) C (omega (arith, xs-length)) nextC (omega (arith, xs-length)) in
           let before : take (parent (sizes S) i) (sizes M) ≡ take (parent (sizes S) i) (sizes S) =
-          sizes-before-next (parent (sizes S) i) g C1 ∙ sizes-before (parent (sizes S) i) (λ _. take (HealRows.keep u) u) C ∙ sizes-before (parent (sizes S) i) (removeAt (offset (sizes S) i)) S in
-          let size-M : getD (sizes M) (parent (sizes S) i) 0 ≡ HealRows.keep u =
-          sym (length-items M (parent (sizes S) i)) ∙ ap length (items-next (parent (sizes S) i) g C1 ∙ HealRows.upd-same (parent (sizes S) i) (λ _. take (HealRows.keep u) u) C C-in) ∙
-          length-take (HealRows.keep u) u ∙ least-of (HealRows.keep u) (length u) (omega arith) in
+          sizes-before-next (parent (sizes S) i) g C1 ∙ sizes-before (parent (sizes S) i) (λ _. take (HealMend.keep u) u) C ∙ sizes-before (parent (sizes S) i) (removeAt (offset (sizes S) i)) S in
+          let size-M : getD (sizes M) (parent (sizes S) i) 0 ≡ HealMend.keep u =
+          sym (length-items M (parent (sizes S) i)) ∙ ap length (items-next (parent (sizes S) i) g C1 ∙ HealRows.upd-same (parent (sizes S) i) (λ _. take (HealMend.keep u) u) C C-in) ∙
+          length-take (HealMend.keep u) u ∙ least-of (HealMend.keep u) (length u) (omega arith) in
           let q = HealStep.spot (sizes S) (sizes M) i before (omega (arith, over-is, off-in)) in
           record {
             rows = HealStack.setKey (suc (parent (sizes S) i)) k Ss;
@@ -225,16 +227,16 @@ module _ {enc : List Item → List ℕ} {cap low : ℕ} {o : Ops} (law : Lawful 
             keeps = λ x c.
                 let c2 : count x (nums S) + count x (numbers Ss) ≡ 0 = rw (total-append (λ z. Rattle.forest.specs.Lists.once (eqb x z)) (nums S) (numbers Ss)) at c in
                 let c3 : count x (nums C) ≡ 0 = rw (HealRows.upd-nums (parent (sizes S) i) (removeAt (offset (sizes S) i)) S) (omega arith) in
-                let c4 : count x (nums C1) ≡ 0 = rw (HealRows.upd-nums (parent (sizes S) i) (λ _. take (HealRows.keep u) u) C) c3 in
+                let c4 : count x (nums C1) ≡ 0 = rw (HealRows.upd-nums (parent (sizes S) i) (λ _. take (HealMend.keep u) u) C) c3 in
                 HealStep.keyed-keeps enc C1 (parent (sizes S) i) Ss st1 (s .ns) (s .ps) stacked1 n1 once1 row1 up1 path1 w g refl k x (omega arith) ∙
                 HealStep.righted-keeps enc C1 (parent (sizes S) i) Ss st1 (s .ns) (s .ps) stacked1 n1 once1 row1 up1 path1 st1 w x c4 ∙ keeps1 x c3;
-            zeros = λ x c d. absurd (let z = rw (HealRows.share-nums (parent (sizes S) i) u C ∙ HealRows.upd-nums (parent (sizes S) i) (removeAt (offset (sizes S) i)) S, HealStep.shape-numbers (HealStack.setKey-shape (suc (parent (sizes S) i)) k Ss)) at d in omega arith);
+            zeros = λ x c d. absurd (let z = rw (HealMend.share-nums (parent (sizes S) i) u C ∙ HealRows.upd-nums (parent (sizes S) i) (removeAt (offset (sizes S) i)) S, HealNext.shape-numbers (HealStack.setKey-shape (suc (parent (sizes S) i)) k Ss)) at d in omega arith);
             free = refl;
             deeper = λ l d. refl;
             places = λ l d. refl;
             stands = here (rw (← is-M) (omega (arith, sum-drop, not-last (sizes S) i big b (rw (length-map S size) e)))) (
               place ∙ sym (q .1),
-              rw (q .0) (HealStep.path-shape C1 M (parent (sizes S) i) (s .ns) (s .ps) (sym (HealRows.upd-numAt (parent (sizes S) i) (suc (parent (sizes S) i)) g C1))
+              rw (q .0) (HealNext.path-shape C1 M (parent (sizes S) i) (s .ns) (s .ps) (sym (HealRows.upd-numAt (parent (sizes S) i) (suc (parent (sizes S) i)) g C1))
                   (HealStack.same-sym (HealStack.setKey-shape (suc (parent (sizes S) i)) k Ss)) path1),
             ) refl;
           }
@@ -244,23 +246,23 @@ module _ {enc : List Item → List ℕ} {cap low : ℕ} {o : Ops} (law : Lawful 
       st3 = HealStep.handKey (HealMem.put (s .st) (HealRows.numAt C (suc (parent (sizes S) i))) (enc (xs ++ ys))) (s .ns) (s .ps) (length Ss)
 
       abbrev MR : Row
-      MR = HealRows.mergeAt (parent (sizes S) i) C
+      MR = HealMend.mergeAt (parent (sizes S) i) C
 
       merges : HealStep.Merged enc C (parent (sizes S) i) Ss (s .st) st3 → 2 * left-over < cap → left-over + length ys ≤ cap →
           Mended enc MR true i S Ss s (up (stored s st3))
-      merges m low fits = with-exit (ih (m .ghost) MR (parent (sizes S) i) (m .rows) (stored s st3) (HealStep.shape-length (m .shape)) (m .gap) (rw (m .len) C-in) (rw (m .len) (omega (arith, nextC))) (m .stacked)
-          (λ x. rw (same-num, HealStep.shape-numbers (m .shape)) (omega (arith, HealMem.gone-count S (parent (sizes S) i) x par-in, apart x))) (m .up)
-          (HealStep.path-shape C (m .ghost) (parent (sizes S) i) (s .ns) (s .ps) (sym (m .name)) (HealStack.same-sym (m .shape)) pathC))
+      merges m low fits = with-exit (ih (m .ghost) MR (parent (sizes S) i) (m .rows) (stored s st3) (HealNext.shape-length (m .shape)) (m .gap) (rw (m .len) C-in) (rw (m .len) (omega (arith, nextC))) (m .stacked)
+          (λ x. rw (same-num, HealNext.shape-numbers (m .shape)) (omega (arith, HealMem.gone-count S (parent (sizes S) i) x par-in, apart x))) (m .up)
+          (HealNext.path-shape C (m .ghost) (parent (sizes S) i) (s .ns) (s .ps) (sym (m .name)) (HealStack.same-sym (m .shape)) pathC))
         where
           same-num : HealRows.numAt (m .ghost) (parent (sizes S) i) ≡ HealRows.numAt S (parent (sizes S) i)
           same-num = m .name ∙ HealRows.upd-numAt (parent (sizes S) i) (parent (sizes S) i) (removeAt (offset (sizes S) i)) S
 
           same-length : length (m .rows) ≡ length Ss
-          same-length = HealStep.shape-length (m .shape)
+          same-length = HealNext.shape-length (m .shape)
 
           with-exit : Exit MR (parent (sizes S) i) (HealRows.numAt (m .ghost) (parent (sizes S) i)) (m .rows) (stored s st3) (up (stored s st3)) → Mended enc MR true i S Ss s (up (stored s st3))
           with-exit x =
-              let is-M : dropRow cap (parent (sizes S) i) (offset (sizes S) i) S ≡ MR = drop-is ∙ HealRows.mend-merges cap (parent (sizes S) i) C (omega (arith, xs-length)) nextC (omega (arith, xs-length)) in
+              let is-M : dropRow cap (parent (sizes S) i) (offset (sizes S) i) S ≡ MR = drop-is ∙ HealMend.mend-merges cap (parent (sizes S) i) C (omega (arith, xs-length)) nextC (omega (arith, xs-length)) in
               let f : List Item → List Item = λ ys. xs ++ ys in
               let len-M : suc (length MR) ≡ length C = length-removeAt (parent (sizes S) i) (HealRows.upd (suc (parent (sizes S) i)) f C) (rw (HealRows.upd-length (suc (parent (sizes S) i)) f C) C-in) ∙ HealRows.upd-length (suc (parent (sizes S) i)) f C in
               let before : take (parent (sizes S) i) (sizes MR) ≡ take (parent (sizes S) i) (sizes S) =
@@ -269,13 +271,13 @@ module _ {enc : List Item → List ℕ} {cap low : ℕ} {o : Ops} (law : Lawful 
               let ys-some : 1 ≤ length ys = rw ys-length (HealStack.some-at (sizes S) (suc (parent (sizes S) i)) big (rw (length-map S size) e)) in
               let q = HealStep.spot (sizes S) (sizes MR) i before (omega (arith, over-is, off-in)) in
               let counts : (y : ℕ) → count y (HealRows.numAt (m .ghost) (parent (sizes S) i) ∷ numbers (m .rows)) + count y (nums MR) ≡ count y (nums S) + count y (numbers Ss) =
-              λ y. rw (same-num, HealStep.shape-numbers (m .shape), HealRows.merge-nums (parent (sizes S) i) C, HealRows.upd-nums (parent (sizes S) i) (removeAt (offset (sizes S) i)) S, ← (HealRows.nums-removeAt (parent (sizes S) i) S))
+              λ y. rw (same-num, HealNext.shape-numbers (m .shape), HealMend.merge-nums (parent (sizes S) i) C, HealRows.upd-nums (parent (sizes S) i) (removeAt (offset (sizes S) i)) S, ← (HealRows.nums-removeAt (parent (sizes S) i) S))
               (omega (arith, HealMem.gone-count S (parent (sizes S) i) y par-in)) in
               record {
                 rows = x .rows;
                 shape = HealStack.same-trans (x .shape) (dropUp-shape (parent (sizes S) i) (m .shape));
                 stacked = x .stacked;
-                row = HealMem.holds-keeps enc st3 ((up (stored s st3)) .st) (HealRows.numAt (m .ghost) (parent (sizes S) i) ∷ numbers (m .rows)) MR (x .keeps) (λ y. omega (arith, counts y, apart y)) (m .row);
+                row = HealMem.holds-apart enc st3 ((up (stored s st3)) .st) (HealRows.numAt (m .ghost) (parent (sizes S) i) ∷ numbers (m .rows)) MR (x .keeps) (λ y. omega (arith, counts y, apart y)) (m .row);
                 up = x .up;
                 keeps = λ y c.
                     let c2 : count y (nums S) + count y (numbers Ss) ≡ 0 = rw (total-append (λ z. Rattle.forest.specs.Lists.once (eqb y z)) (nums S) (numbers Ss)) at c in
@@ -296,8 +298,8 @@ module _ {enc : List Item → List ℕ} {cap low : ℕ} {o : Ops} (law : Lawful 
           let f : List Item → List Item = λ ys. xs ++ ys in
           omega (arith, length-removeAt (parent (sizes S) i) (HealRows.upd (suc (parent (sizes S) i)) f C) (rw (HealRows.upd-length (suc (parent (sizes S) i)) f C) C-in), HealRows.upd-length (suc (parent (sizes S) i)) f C, length-C)
 
-      shared-length : length (HealRows.shareAt (parent (sizes S) i) u C) ≡ length S
-      shared-length = HealRows.upd-length (suc (parent (sizes S) i)) (λ _. drop (HealRows.keep u) u) C1 ∙ HealRows.upd-length (parent (sizes S) i) (λ _. take (HealRows.keep u) u) C ∙ length-C
+      shared-length : length (HealMend.shareAt (parent (sizes S) i) u C) ≡ length S
+      shared-length = HealRows.upd-length (suc (parent (sizes S) i)) (λ _. drop (HealMend.keep u) u) C1 ∙ HealRows.upd-length (parent (sizes S) i) (λ _. take (HealMend.keep u) u) C ∙ length-C
 
     -- heal_level with an item left
     pub heal-some : Mended enc (dropRow cap (parent (sizes S) i) (offset (sizes S) i) S) (lost (dropRow cap (parent (sizes S) i) (offset (sizes S) i) S) S) i S Ss s (healLevel o cap up (length Ss) s)
@@ -307,7 +309,7 @@ module _ {enc : List Item → List ℕ} {cap low : ℕ} {o : Ops} (law : Lawful 
         elim (test (leb cap (2 * left-over))) [
           | is h ↦
               let z = leb-true cap (2 * left-over) h in
-              let is-M : dropRow cap (parent (sizes S) i) (offset (sizes S) i) S ≡ C = drop-is ∙ HealRows.mend-stays cap (parent (sizes S) i) C (omega (arith, xs-length)) (omega (arith, length-C, par-in)) (omega arith) in
+              let is-M : dropRow cap (parent (sizes S) i) (offset (sizes S) i) S ≡ C = drop-is ∙ HealMend.mend-stays cap (parent (sizes S) i) C (omega (arith, xs-length)) (omega (arith, length-C, par-in)) (omega arith) in
               elim (test (eqb (offset (sizes S) i) left-over)) [
                 | is q ↦
                     let at-end = eqb-true (offset (sizes S) i) left-over q in
@@ -333,7 +335,7 @@ module _ {enc : List Item → List ℕ} {cap low : ℕ} {o : Ops} (law : Lawful 
                 | isnt f ↦
                     let lst : suc (parent (sizes S) i) ≡ length S = (let y = ltb-false (suc (parent (sizes S) i)) (length S) f in omega (arith, par-in)) in
                     let none-right = HealPath.right-none (s .st) (s .ns) (s .ps) C (parent (sizes S) i) Ss (omega (arith, length-C)) stacked hu pathC in
-                    let is-M : dropRow cap (parent (sizes S) i) (offset (sizes S) i) S ≡ C = drop-is ∙ HealRows.mend-last cap (parent (sizes S) i) C (omega (arith, xs-length)) (omega (arith, length-C)) in
+                    let is-M : dropRow cap (parent (sizes S) i) (offset (sizes S) i) S ≡ C = drop-is ∙ HealMend.mend-last cap (parent (sizes S) i) C (omega (arith, xs-length)) (omega (arith, length-C)) in
                     elim (test (ltb (offset (sizes S) i) left-over)) [
                       | is q ↦
                           let se : healLevel o cap up (length Ss) s ≡ s = simp (en, h, nz, place, none-right, q) in
@@ -356,7 +358,7 @@ module _ {enc : List Item → List ℕ} {cap low : ℕ} {o : Ops} (law : Lawful 
                           let fits = leb-true (left-over + length ys) cap g in
                           let ga : o .gather (s .st (s .ns (length Ss))) (s .st (HealRows.numAt C (suc (parent (sizes S) i)))) (front ys) ≡ enc (xs ++ ys) =
                           rw (here-words, right-words e) (law .gather-is xs ys xs-some ys-some (omega (arith, xs-length))) in
-                          let is-M : dropRow cap (parent (sizes S) i) (offset (sizes S) i) S ≡ MR e = drop-is ∙ HealRows.mend-merges cap (parent (sizes S) i) C (omega (arith, xs-length)) (nextC e) (omega (arith, xs-length)) in
+                          let is-M : dropRow cap (parent (sizes S) i) (offset (sizes S) i) S ≡ MR e = drop-is ∙ HealMend.mend-merges cap (parent (sizes S) i) C (omega (arith, xs-length)) (nextC e) (omega (arith, xs-length)) in
                           let fewer : lost (MR e) S ≡ true = lt-ltb (length (MR e)) (length S) (merged-length e) in
                           let se : healLevel o cap up (length Ss) s ≡ up (stored s (st3 e)) = simp (en, h, nz, rs, en2, g, ga) in
                           rw (is-M, fewer, se) (merges e
@@ -364,16 +366,16 @@ module _ {enc : List Item → List ℕ} {cap low : ℕ} {o : Ops} (law : Lawful 
                       | isnt g ↦
                           let big2 = leb-false (left-over + length ys) cap g in
                           let high : cap < length xs + length ys = omega (arith, xs-length) in
-                          let le : o .left (s .st (s .ns (length Ss))) (s .st (HealRows.numAt C (suc (parent (sizes S) i)))) (front ys) ≡ enc (take (HealRows.keep (u e)) (u e)) =
+                          let le : o .left (s .st (s .ns (length Ss))) (s .st (HealRows.numAt C (suc (parent (sizes S) i)))) (front ys) ≡ enc (take (HealMend.keep (u e)) (u e)) =
                           rw (here-words, right-words e) (law .left-is xs ys xs-some xs-few ys-few high) in
-                          let ri : o .right (s .st (s .ns (length Ss))) (s .st (HealRows.numAt C (suc (parent (sizes S) i)))) (front ys) ≡ enc (drop (HealRows.keep (u e)) (u e)) =
+                          let ri : o .right (s .st (s .ns (length Ss))) (s .st (HealRows.numAt C (suc (parent (sizes S) i)))) (front ys) ≡ enc (drop (HealMend.keep (u e)) (u e)) =
                           rw (here-words, right-words e) (law .right-is xs ys xs-some xs-few ys-few high) in
-                          let mi : o .mid (s .st (s .ns (length Ss))) (s .st (HealRows.numAt C (suc (parent (sizes S) i)))) (front ys) ≡ front (drop (HealRows.keep (u e)) (u e)) =
+                          let mi : o .mid (s .st (s .ns (length Ss))) (s .st (HealRows.numAt C (suc (parent (sizes S) i)))) (front ys) ≡ front (drop (HealMend.keep (u e)) (u e)) =
                           rw (here-words, right-words e) (law .mid-is xs ys xs-some xs-few ys-few high) in
                           let nm = HealPath.path-node C (parent (sizes S) i) Ss (s .ns) (s .ps) pathC in
-                          let mate = HealRows.upd-numAt (suc (parent (sizes S) i)) (parent (sizes S) i) (λ _. take (HealRows.keep (u e)) (u e)) C in
-                          let is-M : dropRow cap (parent (sizes S) i) (offset (sizes S) i) S ≡ HealRows.shareAt (parent (sizes S) i) (u e) C = drop-is ∙ HealRows.mend-shares cap (parent (sizes S) i) C (omega (arith, xs-length)) (nextC e) high in
-                          let as-many : lost (HealRows.shareAt (parent (sizes S) i) (u e) C) S ≡ false = le-ltb (length (HealRows.shareAt (parent (sizes S) i) (u e) C)) (length S) (omega (arith, shared-length e)) in
+                          let mate = HealRows.upd-numAt (suc (parent (sizes S) i)) (parent (sizes S) i) (λ _. take (HealMend.keep (u e)) (u e)) C in
+                          let is-M : dropRow cap (parent (sizes S) i) (offset (sizes S) i) S ≡ HealMend.shareAt (parent (sizes S) i) (u e) C = drop-is ∙ HealMend.mend-shares cap (parent (sizes S) i) C (omega (arith, xs-length)) (nextC e) high in
+                          let as-many : lost (HealMend.shareAt (parent (sizes S) i) (u e) C) S ≡ false = le-ltb (length (HealMend.shareAt (parent (sizes S) i) (u e) C)) (length S) (omega (arith, shared-length e)) in
                           let se : healLevel o cap up (length Ss) s ≡ stored s (st2 e) = simp (en, h, nz, rs, en2, g) (rw (le, ri, mi, nm, mate)) in
                           rw (is-M, as-many, se) (shares e z big2)
                     ]
@@ -393,7 +395,7 @@ module _ {enc : List Item → List ℕ} {cap low : ℕ} {o : Ops} (law : Lawful 
       is-last = elim (test (ltb (suc (parent (sizes S) i)) (length S))) [
         | is e ↦
             let z = ltb-true (suc (parent (sizes S) i)) (length S) e in
-            let y = HealStack.fill-low low cap (sizes S) (parent (sizes S) i) fill (rw (length-map S size) z) in
+            let y = fill-inside low cap (sizes S) (parent (sizes S) i) fill (rw (length-map S size) z) in
             absurd (omega (arith, length-items S (parent (sizes S) i), alone-in))
         | isnt e ↦ let z = ltb-false (suc (parent (sizes S) i)) (length S) e in omega (arith, par-in)
       ]
@@ -408,7 +410,7 @@ module _ {enc : List Item → List ℕ} {cap low : ℕ} {o : Ops} (law : Lawful 
       }
 
       is-M : dropRow cap (parent (sizes S) i) (offset (sizes S) i) S ≡ removeAt (parent (sizes S) i) S
-      is-M = drop-is ∙ HealRows.mend-empty cap (parent (sizes S) i) C
+      is-M = drop-is ∙ HealMend.mend-empty cap (parent (sizes S) i) C
           (ap length (HealRows.upd-same (parent (sizes S) i) (removeAt (offset (sizes S) i)) S par-in) ∙ zero-left)
           (is-last ∙ sym (HealRows.upd-length (parent (sizes S) i) (removeAt (offset (sizes S) i)) S)) ∙
           remove-upd (parent (sizes S) i) (removeAt (offset (sizes S) i)) S
@@ -427,7 +429,7 @@ module _ {enc : List Item → List ℕ} {cap low : ℕ} {o : Ops} (law : Lawful 
         rows = x .rows;
         shape = x .shape;
         stacked = x .stacked;
-        row = HealMem.holds-keeps enc (s .st) ((up s) .st) (HealRows.numAt S (parent (sizes S) i) ∷ numbers Ss) (removeAt (parent (sizes S) i) S) (x .keeps)
+        row = HealMem.holds-apart enc (s .st) ((up s) .st) (HealRows.numAt S (parent (sizes S) i) ∷ numbers Ss) (removeAt (parent (sizes S) i) S) (x .keeps)
             (λ y. omega (arith, HealMem.gone-count S (parent (sizes S) i) y par-in, apart y)) rest;
         up = x .up;
         keeps = λ y c.

@@ -1,31 +1,34 @@
 -- PROOFS. Each call inside the cycle finds the state it asks for
 use mathlib.Core.Path.{_≡_, refl, sym, ap, _∙_, subst}
-use mathlib.Core.List.{List, [], _∷_, _++_, append-assoc, append-nil, map}
-use mathlib.Core.Bool.{Bool, true, false, cond, _&&_}
-use mathlib.Core.Option.{Option, none, some}
-use Prim.Native.Nat.{ℕ, zero, suc, _+_, _-_, _*_, _≤_, _<_, _/_, min}
+use mathlib.Core.List.{List, [], _∷_, _++_}
+use mathlib.Core.Bool.{_&&_}
+use mathlib.Core.Option.{some}
+use Prim.Native.Nat.{ℕ, suc, _+_, _-_, _≤_, _<_}
 use native.Mathlib.Omega.{arith}
-use native.Mathlib.Nat.{zero-add, suc-add}
-use lib.ListN.{length, take, drop, getD, set, length-append, length-map, length-take, length-drop}
+use lib.ListN.{length, getD, length-map}
 use lib.Dec.{ltb, eqb, leb}
-use borrow.Author.Tests.{lt-ltb, le-ltb, ltb-true, ltb-false, eqb-true, eqb-false, eq-eqb, ne-eqb, le-leb, lt-leb, leb-true, leb-false}
-use Rattle.forest.specs.Lists.{insertAt, removeAt, sum, once, total, count, pad, parent, offset}
+use borrow.Author.Tests.{ltb-true, ltb-false}
+use Rattle.forest.specs.Lists.{removeAt, once, parent, offset}
 use Rattle.forest.specs.Pairs.{Item}
-use Rattle.forest.specs.Rows.{Node, Row, node, size, front, nums, sizes, joined, line, itemsAt, Fill, least, dropRow, alone, heal, without}
-use Rattle.forest.specs.Trees.{numbers, dropAt, dropUp, freedUp, lost}
-use Rattle.forest.specs.Pools.{innerWords, pushAll}
-use Rattle.forest.proofs.ListLaws.{Test, is, isnt, test, tests, total-append, parent-lt, offset-lt, parent-start, length-removeAt, cons-eq, map-append}
-use Rattle.forest.proofs.RowLaws.{sum-sizes, length-line, length-items, fill-at, dropRow-joined, dropRow-fill}
-use Rattle.heal.proofs.HealRows
-use Rattle.heal.proofs.HealStack
-use Rattle.heal.proofs.HealMem
-use Rattle.heal.proofs.HealPath
+use Rattle.forest.specs.Rows.{Row, size, front, nums, sizes, itemsAt}
+use Rattle.forest.specs.Trees.{numbers}
+use Rattle.forest.specs.Pools.{innerWords}
+use Rattle.forest.proofs.ListLaws.{is, isnt, test, total-append, parent-lt, offset-lt, length-removeAt}
+use Rattle.forest.proofs.RowLaws.{length-items}
+use Rattle.crit.specs.States.{State, stored}
+use Rattle.heal.specs.Steps.{Ops, freeNode, parentCut, emptyNode}
+use Rattle.heal.specs.Wounds.{Emptied, Wounded, alive, dead, Within}
+use Rattle.crit.proofs.HealRows
+use Rattle.crit.proofs.HealStack
+use Rattle.crit.proofs.HealMem
+use Rattle.crit.proofs.HealPath
+use Rattle.crit.proofs.HealNext
+use Rattle.heal.proofs.HealMend
 use Rattle.heal.proofs.HealStep
-use Rattle.heal.proofs.SpeltLaws.{upto-one}
+use Rattle.heal.proofs.FreeLaws.{upto-one}
 use Rattle.heal.proofs.HealShape.{two-nodes}
-use Rattle.heal.proofs.HealUp.{Lawful, Heals, Exit, Mended, empty-up, wounded, heal-some, heal-none}
-use Rattle.heal.specs.States.{State, Ops, freeNode, stored, parentCut, healLevel, emptyNode}
-use Rattle.heal.specs.Wounds.{Emptied, Wounded, Left, alive, dead, Within}
+use Rattle.heal.proofs.HealUp.{Lawful, empty-up, wounded}
+use Rattle.forest.proofs.Sentences.{fill-inside}
 
 -- a number that stands once among those in use and the free ones
 pub within-once : (N : ℕ) (xs free : List ℕ) → Within N xs free → HealMem.Once xs
@@ -73,7 +76,7 @@ module _ {enc : List Item → List ℕ} {cap low : ℕ} {o : Ops} (law : Lawful 
   name-C = HealRows.upd-numAt (parent (sizes (w .row)) (w .at)) (parent (sizes (w .row)) (w .at)) (removeAt (offset (sizes (w .row)) (w .at))) (w .row)
 
   pub pathC : HealPath.Path C (parent (sizes (w .row)) (w .at)) (w .rows) (s .ns) (s .ps)
-  pathC = HealStep.path-shape (w .row) C (parent (sizes (w .row)) (w .at)) (s .ns) (s .ps) (sym name-C) (HealStack.same-refl (w .rows)) (w .path)
+  pathC = HealNext.path-shape (w .row) C (parent (sizes (w .row)) (w .at)) (s .ns) (s .ps) (sym name-C) (HealStack.same-refl (w .rows)) (w .path)
 
   -- heal_level calls empty_node
   pub ready-none : o .entries (s .st (s .ns l)) ≡ 0 → Emptied N l s
@@ -92,7 +95,7 @@ module _ {enc : List Item → List ℕ} {cap low : ℕ} {o : Ops} (law : Lawful 
         let is-last : suc (parent (sizes (w .row)) (w .at)) ≡ length (w .row) =
         elim (test (ltb (suc (parent (sizes (w .row)) (w .at))) (length (w .row)))) [
           | is e ↦
-              let y = HealStack.fill-low low cap (sizes (w .row)) (parent (sizes (w .row)) (w .at)) (w .fill) (rw (length-map (w .row) size) (ltb-true (suc (parent (sizes (w .row)) (w .at))) (length (w .row)) e)) in
+              let y = fill-inside low cap (sizes (w .row)) (parent (sizes (w .row)) (w .at)) (w .fill) (rw (length-map (w .row) size) (ltb-true (suc (parent (sizes (w .row)) (w .at))) (length (w .row)) e)) in
               absurd (omega (arith, length-items (w .row) (parent (sizes (w .row)) (w .at)), law .least-two))
           | isnt e ↦ let y = ltb-false (suc (parent (sizes (w .row)) (w .at))) (length (w .row)) e in omega (arith, par-in)
         ] in
@@ -134,17 +137,17 @@ module _ {enc : List Item → List ℕ} {cap low : ℕ} {o : Ops} (law : Lawful 
   emptied : (st′ : HealMem.Store) → HealStep.Merged enc C (parent (sizes (w .row)) (w .at)) (w .rows) (s .st) st′ → suc (parent (sizes (w .row)) (w .at)) < length C → Emptied N L (stored s st′)
   emptied st′ m h = record {
     row = m .ghost;
-    below = HealRows.mergeAt (parent (sizes (w .row)) (w .at)) C;
+    below = HealMend.mergeAt (parent (sizes (w .row)) (w .at)) C;
     at = parent (sizes (w .row)) (w .at);
     rows = m .rows;
-    level = HealStep.shape-length (m .shape);
+    level = HealNext.shape-length (m .shape);
     gap = m .gap;
     inside = rw (m .len) (omega arith);
     two = rw (m .len) (omega arith);
     stacked = m .stacked;
-    within = λ x. rw (m .name ∙ name-C, HealStep.shape-numbers (m .shape)) (omega (arith, HealMem.gone-count (w .row) (parent (sizes (w .row)) (w .at)) x par-in, w .within x, total-append (λ z. Rattle.forest.specs.Lists.once (eqb x z)) (nums (w .row)) (numbers (w .rows))));
+    within = λ x. rw (m .name ∙ name-C, HealNext.shape-numbers (m .shape)) (omega (arith, HealMem.gone-count (w .row) (parent (sizes (w .row)) (w .at)) x par-in, w .within x, total-append (λ z. Rattle.forest.specs.Lists.once (eqb x z)) (nums (w .row)) (numbers (w .rows))));
     up = m .up;
-    path = HealStep.path-shape C (m .ghost) (parent (sizes (w .row)) (w .at)) (s .ns) (s .ps) (sym (m .name)) (HealStack.same-sym (m .shape)) pathC;
+    path = HealNext.path-shape C (m .ghost) (parent (sizes (w .row)) (w .at)) (s .ns) (s .ps) (sym (m .name)) (HealStack.same-sym (m .shape)) pathC;
   }
 
   merge-here : 2 ≤ length (itemsAt (w .row) (parent (sizes (w .row)) (w .at))) → HealStack.Stacked C (w .rows) → HealMem.Holds enc (s .st) C → suc (parent (sizes (w .row)) (w .at)) < length C →

@@ -1,28 +1,27 @@
 -- DEFINITIONS and PROOFS. What the operations on words and the functions of the cycle do to rows; a drop goes by numbers and sizes only
-use mathlib.Core.Path.{_≡_, refl, sym, ap, _∙_, subst}
-use mathlib.Core.List.{List, [], _∷_, _++_, append-assoc, append-nil, map}
-use mathlib.Core.Bool.{Bool, true, false, cond, true≢false}
-use mathlib.Core.Option.{Option, none, some}
-use Prim.Native.Nat.{ℕ, zero, suc, _+_, _-_, _*_, _≤_, _<_, _/_, min}
+use mathlib.Core.Path.{_≡_, refl, sym, ap, _∙_}
+use mathlib.Core.List.{List, [], _∷_, _++_}
+use mathlib.Core.Bool.{Bool, true, false, cond}
+use mathlib.Core.Option.{none}
+use Prim.Native.Nat.{ℕ, zero, suc, _+_, _-_, _*_, _≤_, _<_, min}
 use native.Mathlib.Omega.{arith}
-use native.Mathlib.Nat.{zero-add, suc-add}
-use lib.ListN.{length, take, drop, getD, set, length-append, length-map, length-take, length-drop}
+use lib.ListN.{length, take, drop, getD, length-append, length-map, length-take, length-drop}
 use lib.Dec.{ltb, eqb, leb}
-use borrow.Author.Tests.{lt-ltb, le-ltb, ltb-true, ltb-false, eqb-true, eqb-false, eq-eqb, ne-eqb, le-leb, lt-leb, leb-true, leb-false}
-use Rattle.forest.specs.Lists.{insertAt, removeAt, sum, once, total, count, pad, parent, offset}
+use borrow.Author.Tests.{ltb-true, ltb-false}
+use Rattle.forest.specs.Lists.{removeAt, sum, count, pad, parent, offset}
 use Rattle.forest.specs.Pairs.{Item}
-use Rattle.forest.specs.Rows.{Node, Row, node, size, front, nums, sizes, joined, line, itemsAt, Fill, least, dropRow, alone, heal, without}
+use Rattle.forest.specs.Rows.{Node, Row, size, front, nums, sizes, itemsAt, dropRow, alone, heal, without}
 use Rattle.forest.specs.Trees.{numbers, dropAt, dropUp, freedUp, lost}
-use Rattle.forest.specs.Pools.{innerWords, pushAll}
-use Rattle.forest.proofs.ListLaws.{Test, is, isnt, test, tests, total-append, parent-lt, offset-lt, parent-start, length-removeAt, cons-eq, map-append}
-use Rattle.forest.proofs.RowLaws.{sum-sizes, length-line, length-items, fill-at, dropRow-joined, dropRow-fill}
-use Rattle.heal.proofs.HealRows
-use Rattle.heal.proofs.HealStack
-use Rattle.heal.proofs.HealMem
-use Rattle.heal.proofs.HealPath
+use Rattle.forest.specs.Pools.{pushAll}
+use Rattle.forest.proofs.ListLaws.{is, isnt, test, length-removeAt, cons-eq, map-append}
+use Rattle.crit.specs.States.{State}
+use Rattle.heal.specs.Steps.{Ops}
+use Rattle.crit.proofs.HealRows
+use Rattle.crit.proofs.HealStack
+use Rattle.crit.proofs.HealMem
+use Rattle.crit.proofs.HealPath
+use Rattle.heal.proofs.HealMend
 use Rattle.heal.proofs.HealStep
-use Rattle.heal.specs.States.{State, Ops, freeNode, stored, lives, nodeAt, nextWith, nextNode, settled, underWith, underflowed, healLevel, parentCut, emptyFrom, emptyWith, emptyNode}
-use Rattle.heal.specs.Wounds.{Left, alive, dead, Wounded, Within}
 
 -- what the operations on a node's words do to the words of items, with capacity and least fill
 pub record Lawful (o : Ops) (enc : List Item → List ℕ) (cap low : ℕ) : Type 0 where
@@ -34,11 +33,11 @@ pub record Lawful (o : Ops) (enc : List Item → List ℕ) (cap low : ℕ) : Typ
   pub cut-none : (xs : List Item) (i : ℕ) → length xs ≡ 1 → o .cut (enc xs) i ≡ pad 16 []
   pub gather-is : (xs ys : List Item) → 1 ≤ length xs → 1 ≤ length ys → length xs + length ys ≤ cap → o .gather (enc xs) (enc ys) (front ys) ≡ enc (xs ++ ys)
   pub left-is : (xs ys : List Item) → 1 ≤ length xs → length xs ≤ cap → length ys ≤ cap → cap < length xs + length ys →
-      o .left (enc xs) (enc ys) (front ys) ≡ enc (take (HealRows.keep (xs ++ ys)) (xs ++ ys))
+      o .left (enc xs) (enc ys) (front ys) ≡ enc (take (HealMend.keep (xs ++ ys)) (xs ++ ys))
   pub right-is : (xs ys : List Item) → 1 ≤ length xs → length xs ≤ cap → length ys ≤ cap → cap < length xs + length ys →
-      o .right (enc xs) (enc ys) (front ys) ≡ enc (drop (HealRows.keep (xs ++ ys)) (xs ++ ys))
+      o .right (enc xs) (enc ys) (front ys) ≡ enc (drop (HealMend.keep (xs ++ ys)) (xs ++ ys))
   pub mid-is : (xs ys : List Item) → 1 ≤ length xs → length xs ≤ cap → length ys ≤ cap → cap < length xs + length ys →
-      o .mid (enc xs) (enc ys) (front ys) ≡ front (drop (HealRows.keep (xs ++ ys)) (xs ++ ys))
+      o .mid (enc xs) (enc ys) (front ys) ≡ front (drop (HealMend.keep (xs ++ ys)) (xs ++ ys))
 
 -- where the cursor stands: on position j of n, or off the end
 pub data Where (n j : ℕ) (on : Type 0) (before after : Bool) : Type 0 where
@@ -94,7 +93,7 @@ sizes-before-remove j [] = refl
 sizes-before-remove zero (n ∷ R) = refl
 sizes-before-remove (suc j) (n ∷ R) = ap (size n ∷_) (sizes-before-remove j R)
 
-pub merged-size : (j : ℕ) (R : Row) → suc j < length R → getD (sizes (HealRows.mergeAt j R)) j 0 ≡ length (itemsAt R j) + length (itemsAt R (suc j))
+pub merged-size : (j : ℕ) (R : Row) → suc j < length R → getD (sizes (HealMend.mergeAt j R)) j 0 ≡ length (itemsAt R j) + length (itemsAt R (suc j))
 merged-size j [] h = absurd (omega arith)
 merged-size zero (n ∷ []) h = absurd (omega arith)
 merged-size zero (n ∷ m ∷ R) h = length-append (n .items) (m .items)
@@ -191,10 +190,6 @@ pub front-take : (n : ℕ) (xs : List Item) → 1 ≤ n → front (take n xs) �
 front-take zero xs h = absurd (omega arith)
 front-take (suc n) [] h = refl
 front-take (suc n) (x ∷ xs) h = refl
-
-pub front-append : (xs ys : List Item) → 1 ≤ length xs → front (xs ++ ys) ≡ front xs
-front-append [] ys k = absurd (omega arith)
-front-append (x ∷ xs) ys k = refl
 
 pub dropUp-shape : (i : ℕ) {Ss Ss′ : List Row} → HealStack.SameShape Ss Ss′ → HealStack.SameShape (dropUp i Ss) (dropUp i Ss′)
 dropUp-shape i HealStack.none = HealStack.none

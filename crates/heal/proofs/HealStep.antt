@@ -1,62 +1,26 @@
 -- DEFINITIONS and PROOFS. One level heals: a cut, a merge, a share, as steps of stacked rows held by a store
 use mathlib.Core.Path.{_≡_, refl, sym, ap, _∙_}
-use mathlib.Core.List.{List, [], _∷_, _++_, append-assoc, append-nil, map}
-use mathlib.Core.Bool.{Bool, true, false, cond, true≢false}
-use mathlib.Core.Option.{Option, none, some}
-use Prim.Native.Nat.{ℕ, zero, suc, _+_, _-_, _*_, _≤_, _<_, _/_, min}
+use mathlib.Core.List.{List, [], _∷_, _++_}
+use mathlib.Core.Bool.{false}
+use Prim.Native.Nat.{ℕ, zero, suc, _+_, _-_, _≤_, _<_}
 use native.Mathlib.Omega.{arith}
-use native.Mathlib.Nat.{zero-add, suc-add}
-use lib.ListN.{length, take, drop, getD, set, length-append, length-map, length-take, length-drop}
-use lib.Dec.{ltb, eqb, leb}
-use borrow.Author.Tests.{lt-ltb, le-ltb, ltb-true, ltb-false, eqb-true, eqb-false, eq-eqb, ne-eqb, le-leb, lt-leb, leb-true, leb-false}
-use Rattle.forest.specs.Lists.{insertAt, removeAt, sum, once, total, count, pad, parent, offset}
+use lib.ListN.{length, take, getD, length-map}
+use lib.Dec.{ltb, eqb}
+use borrow.Author.Tests.{lt-ltb, le-ltb, ltb-true, ltb-false, eqb-true, eqb-false}
+use Rattle.forest.specs.Lists.{removeAt, sum, once, count, parent, offset}
 use Rattle.forest.specs.Pairs.{Item}
-use Rattle.forest.specs.Rows.{Node, Row, node, size, front, nums, sizes, joined, line, itemsAt, Fill, least}
+use Rattle.forest.specs.Rows.{Row, size, front, nums, sizes, joined, line, itemsAt}
 use Rattle.forest.specs.Trees.{numbers}
-use Rattle.forest.specs.Pools.{innerWords}
-use Rattle.forest.proofs.ListLaws.{Test, is, isnt, test, tests, total-append, parent-lt, offset-lt}
-use Rattle.forest.proofs.RowLaws.{sum-sizes, length-line, length-items, fill-at}
-use Rattle.heal.proofs.HealRows
-use Rattle.heal.proofs.HealStack
-use Rattle.heal.proofs.HealMem
-use Rattle.heal.proofs.HealPath
+use Rattle.forest.proofs.ListLaws.{is, isnt, test, total-append, parent-lt, offset-lt}
+use Rattle.forest.proofs.RowLaws.{length-items}
+use Rattle.crit.proofs.HealRows
+use Rattle.crit.proofs.HealStack
+use Rattle.crit.proofs.HealMem
+use Rattle.crit.proofs.HealPath
+use Rattle.heal.proofs.HealMend
 pub use Rattle.heal.specs.Wounds.{Gap, cutRow}
-pub use Rattle.heal.specs.States.{at, nextAt, handWith, handKey}
-
--- a path is of numbers and sizes only
-pub numAt-nums : (R : Row) (j : ℕ) → HealRows.numAt R j ≡ getD (nums R) j 0
-numAt-nums [] j = refl
-numAt-nums (n ∷ R) zero = refl
-numAt-nums (n ∷ R) (suc j) = numAt-nums R j
-
-pub numAt-same : (R R′ : Row) (j : ℕ) → nums R ≡ nums R′ → HealRows.numAt R j ≡ HealRows.numAt R′ j
-numAt-same R R′ j e = numAt-nums R j ∙ ap (λ (l : List ℕ). getD l j 0) e ∙ sym (numAt-nums R′ j)
-
-pub shape-length : {Ss Ss′ : List Row} → HealStack.SameShape Ss Ss′ → length Ss ≡ length Ss′
-shape-length HealStack.none = refl
-shape-length (HealStack.also a b r) = ap suc (shape-length r)
-
-pub shape-numbers : {Ss Ss′ : List Row} → HealStack.SameShape Ss Ss′ → numbers Ss ≡ numbers Ss′
-shape-numbers HealStack.none = refl
-shape-numbers (HealStack.also a b r) = rw (a, shape-numbers r)
-
-pub path-shape : (R R′ : Row) (j : ℕ) {Ss Ss′ : List Row} (ns ps : ℕ → ℕ) → HealRows.numAt R j ≡ HealRows.numAt R′ j → HealStack.SameShape Ss Ss′ → HealPath.Path R j Ss ns ps → HealPath.Path R′ j Ss′ ns ps
-path-shape R R′ j ns ps e HealStack.none p = p ∙ e
-path-shape R R′ j ns ps e (HealStack.also {S} {S′} {Ss} {Ss′} a b r) p =
-    let l = shape-length r in (
-      rw (← l) (p .0 ∙ e),
-      rw (← l) (p .1 ∙ ap (λ (g : List ℕ). offset g j) b),
-      path-shape S S′ (parent (sizes S′) j) ns ps (numAt-same S S′ (parent (sizes S′) j) a) r (rw b at (p .2)),
-    )
-
--- a path reads no deeper than its row
-pub path-deeper : (R : Row) (j : ℕ) (Ss : List Row) (ns ps ns′ ps′ : ℕ → ℕ) → ((l : ℕ) → l ≤ length Ss → ns′ l ≡ ns l) → ((l : ℕ) → l < length Ss → ps′ l ≡ ps l) → HealPath.Path R j Ss ns ps → HealPath.Path R j Ss ns′ ps′
-path-deeper R j [] ns ps ns′ ps′ a b p = a 0 (omega arith) ∙ p
-path-deeper R j (S ∷ Ss) ns ps ns′ ps′ a b p = (
-  a (suc (length Ss)) (omega arith) ∙ p .0,
-  b (length Ss) (omega arith) ∙ p .1,
-  path-deeper S (parent (sizes S) j) Ss ns ps ns′ ps′ (λ l h. a l (omega arith)) (λ l h. b l (omega arith)) (p .2),
-)
+pub use Rattle.crit.specs.States.{handWith, handKey}
+use Rattle.forest.proofs.Sentences.{fill-inside}
 
 -- a place in groups of which only the later ones change
 pub spot : (gs hs : List ℕ) (i : ℕ) → take (parent gs i) hs ≡ take (parent gs i) gs → offset gs i < getD hs (parent gs i) 0 → (parent hs i ≡ parent gs i) × (offset hs i ≡ offset gs i)
@@ -193,7 +157,7 @@ module _ (R′ R : Row) (i : ℕ) (S : Row) (Ss : List Row) (g : Gap R′ R i) (
   cut-last one = elim (test (ltb (suc (parent (sizes S) i)) (length S))) [
     | is e ↦
         let z = ltb-true _ _ e in
-        let y = HealStack.fill-low 4 8 (sizes S) (parent (sizes S) i) (s .1) (rw (length-map S size) z) in
+        let y = fill-inside 4 8 (sizes S) (parent (sizes S) i) (s .1) (rw (length-map S size) z) in
         absurd (omega (arith, length-items S (parent (sizes S) i)))
     | isnt e ↦ let z = ltb-false (suc (parent (sizes S) i)) (length S) e in omega (arith, cut-par)
   ]
@@ -242,9 +206,9 @@ module _ (R : Row) (j : ℕ) (S : Row) (Ss : List Row) (s : HealStack.Stacked R 
   merge-shape zero = HealStack.same-refl (S ∷ Ss)
   merge-shape (suc i) = HealStack.setKey-shape (suc j) (front (itemsAt R j)) (S ∷ Ss)
 
-pub merge-gap : (R : Row) (j : ℕ) (S : Row) (Ss : List Row) (s : HealStack.Stacked R (S ∷ Ss)) (h : suc j < length R) (one : 1 ≤ length (itemsAt R j)) → Gap (HealRows.mergeAt j R) (phantom R j S Ss s h one j) j
+pub merge-gap : (R : Row) (j : ℕ) (S : Row) (Ss : List Row) (s : HealStack.Stacked R (S ∷ Ss)) (h : suc j < length R) (one : 1 ≤ length (itemsAt R j)) → Gap (HealMend.mergeAt j R) (phantom R j S Ss s h one j) j
 merge-gap R zero S Ss s h one = record {
-  alike = rw (HealRows.merge-line 0 R h one) (swap (line R));
+  alike = rw (HealMend.merge-line 0 R h one) (swap (line R));
   fronts = λ a b. absurd (omega arith);
 }
   where
@@ -296,7 +260,7 @@ module _ (enc : List Item → List ℕ) (R : Row) (j : ℕ) (Ss : List Row) (st 
   righted-keeps st′ w = HealMem.put-keeps st′ (HealRows.numAt R (suc j)) w (nums R) (HealMem.numAt-counts R (suc j) h)
 
   pub righted-up : (st′ : HealMem.Store) (w : List ℕ) → HealMem.HoldsUp st′ Ss → HealMem.HoldsUp (righted st′ w) Ss
-  righted-up st′ w u = HealMem.up-keeps st′ (righted st′ w) (nums R) Ss (righted-keeps st′ w) apart u
+  righted-up st′ w u = HealMem.up-apart st′ (righted st′ w) (nums R) Ss (righted-keeps st′ w) apart u
 
   module _ (w : List ℕ) (f : List Item → List Item) (e : w ≡ enc (f (itemsAt R (suc j)))) (k : ℕ) where
     -- the neighbour's items change, and its key
@@ -314,56 +278,8 @@ module _ (enc : List Item → List ℕ) (R : Row) (j : ℕ) (Ss : List Row) (st 
 
     pub keyed-row : HealMem.Holds enc keyed (HealRows.upd (suc j) f R)
     keyed-row =
-        HealMem.holds-keeps enc (righted st w) keyed (numbers Ss) (HealRows.upd (suc j) f R) keyed-keeps
+        HealMem.holds-apart enc (righted st w) keyed (numbers Ss) (HealRows.upd (suc j) f R) keyed-keeps
         (λ x. rw (HealRows.upd-nums (suc j) f R) (omega (arith, apart x))) righted-row
-
-module _ (st : HealMem.Store) (ns ps : ℕ → ℕ) where
-  pub next-deeper : (l x : ℕ) → (l < x → (nextAt st ns ps l) .0 x ≡ ns x) × (l ≤ x → (nextAt st ns ps l) .1 x ≡ ps x)
-  next-deeper zero x = ((λ _. refl), (λ _. refl))
-  next-deeper (suc l) x = elim (test (HealPath.more st ns ps l)) [
-    | is e ↦ simp e ((λ q. simp (ne-eqb x (suc l) (omega arith))), (λ q. simp (ne-eqb x l (omega arith))))
-    | isnt e ↦
-        let z = next-deeper l x in
-        simp e ((λ q. simp (ne-eqb x (suc l) (omega arith)) (z .0 (omega arith))), (λ q. simp (ne-eqb x l (omega arith)) (z .1 (omega arith))))
-  ]
-
-  pub next-path : (R : Row) (j : ℕ) (Ss : List Row) → suc j < length R → HealStack.Stacked R Ss → HealMem.HoldsUp st Ss → HealPath.Path R j Ss ns ps →
-      HealPath.Path R (suc j) Ss ((nextAt st ns ps (length Ss)) .0) ((nextAt st ns ps (length Ss)) .1)
-  next-path R j [] h s hu p = absurd (omega arith)
-  next-path R j (S ∷ Ss) h s hu p =
-      let u : sum (sizes S) ≡ length R = HealStack.stacked-sum R S (s .0) in
-      let r = HealPath.here st ns ps S Ss j (omega arith) (s .1) (hu .0) (p .1) (p .2) in
-      let m = HealPath.more-is st ns ps r in
-      let big = HealStack.fill-some 4 8 (sizes S) (omega arith) (s .1) in
-      let q : (getD (itemsAt S (parent (sizes S) (suc j))) (offset (sizes S) (suc j)) (0, 0)) .1 ≡ HealRows.numAt R (suc j) =
-      ap (λ (x : Item). x .1) (sym (HealRows.item-at (0, 0) S (suc j) (omega arith)) ∙ HealStack.alike-at (0, 0) j (s .0) ∙ HealRows.line-at (0, 0) R (suc j) h) in
-      elim (HealStack.next (sizes S) j big (omega arith)) [
-        | HealStack.within x y z ↦
-            let g : suc (offset (sizes S) j) < length (itemsAt S (parent (sizes S) j)) = omega (arith, r .wide) in
-            let e : HealPath.more st ns ps (length Ss) ≡ true = m ∙ lt-ltb (suc (offset (sizes S) j)) (length (itemsAt S (parent (sizes S) j))) g in
-            let q′ = rw (y, z) at q in
-            simp e (
-              simp (eq-eqb (suc (length Ss)) (suc (length Ss)) refl) (rw (r .words, r .place) (HealPath.inner-child (0, 0) (suc (offset (sizes S) j)) (itemsAt S (parent (sizes S) j)) g (r .few) ∙ q′)),
-              simp (eq-eqb (length Ss) (length Ss) refl) (ap suc (r .place) ∙ sym z),
-              rw y (path-deeper S (parent (sizes S) j) Ss ns ps (at ns (suc (length Ss)) _) (at ps (length Ss) _)
-                  (λ l b. simp (ne-eqb l (suc (length Ss)) (omega arith))) (λ l b. simp (ne-eqb l (length Ss) (omega arith))) (p .2)),
-            )
-        | HealStack.across x y z ↦
-            let e : HealPath.more st ns ps (length Ss) ≡ false = m ∙ le-ltb (suc (offset (sizes S) j)) (length (itemsAt S (parent (sizes S) j))) (omega (arith, r .wide)) in
-            let n2 : suc (parent (sizes S) j) < length S = rw y at (rw (length-map S size) at (parent-lt (sizes S) (suc j) (omega arith))) in
-            let q′ = rw (y, z) at q in
-            let l2 = length-items S (suc (parent (sizes S) j)) in
-            let one : 1 ≤ length (itemsAt S (suc (parent (sizes S) j))) = rw l2 (HealStack.some-at (sizes S) (suc (parent (sizes S) j)) big (rw (length-map S size) n2)) in
-            let ih = next-path S (parent (sizes S) j) Ss n2 (s .2) (hu .1) (p .2) in
-            let w : st ((nextAt st ns ps (length Ss)) .0 (length Ss)) ≡ innerWords (itemsAt S (suc (parent (sizes S) j))) =
-            ap st (HealPath.path-node S (suc (parent (sizes S) j)) Ss ((nextAt st ns ps (length Ss)) .0) ((nextAt st ns ps (length Ss)) .1) ih) ∙ HealMem.holds-at innerWords st S (suc (parent (sizes S) j)) n2 (hu .0) in
-            simp e (
-              simp (eq-eqb (suc (length Ss)) (suc (length Ss)) refl) (rw w (HealPath.inner-child (0, 0) 0 (itemsAt S (suc (parent (sizes S) j))) one (rw l2 (fill-at 4 8 (sizes S) (suc (parent (sizes S) j)) (s .1))) ∙ q′)),
-              simp (eq-eqb (length Ss) (length Ss) refl) (sym z),
-              rw y (path-deeper S (suc (parent (sizes S) j)) Ss ((nextAt st ns ps (length Ss)) .0) ((nextAt st ns ps (length Ss)) .1) (at ((nextAt st ns ps (length Ss)) .0) (suc (length Ss)) _) (at ((nextAt st ns ps (length Ss)) .1) (length Ss) _)
-                  (λ l b. simp (ne-eqb l (suc (length Ss)) (omega arith))) (λ l b. simp (ne-eqb l (length Ss) (omega arith))) ih),
-            )
-      ]
 
 -- Everything of the j-th node went to its right neighbour, whose words are w: the rows stand under a ghost row that still has the j-th node
 pub record Merged (enc : List Item → List ℕ) (R : Row) (j : ℕ) (Ss : List Row) (st st′ : HealMem.Store) : Type 0 where
@@ -371,10 +287,10 @@ pub record Merged (enc : List Item → List ℕ) (R : Row) (j : ℕ) (Ss : List 
   pub rows : List Row
   pub shape : HealStack.SameShape rows Ss
   pub stacked : HealStack.Stacked ghost rows
-  pub gap : Gap (HealRows.mergeAt j R) ghost j
+  pub gap : Gap (HealMend.mergeAt j R) ghost j
   pub name : HealRows.numAt ghost j ≡ HealRows.numAt R j
   pub len : length ghost ≡ length R
-  pub row : HealMem.Holds enc st′ (HealRows.mergeAt j R)
+  pub row : HealMem.Holds enc st′ (HealMend.mergeAt j R)
   pub up : HealMem.HoldsUp st′ rows
   pub keeps : HealMem.Keeps st st′ (nums R ++ numbers Ss)
 

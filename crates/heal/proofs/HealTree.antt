@@ -1,29 +1,30 @@
 -- DEFINITIONS and PROOFS. A pair is removed at a cursor: the cut of the leaf, the key, the healing; then the rows are those of the definition
 use mathlib.Core.Path.{_≡_, refl, sym, ap, _∙_, subst}
-use mathlib.Core.List.{List, [], _∷_, _++_, append-assoc, append-nil, map}
-use mathlib.Core.Bool.{Bool, true, false, cond, true≢false}
-use mathlib.Core.Option.{Option, none, some}
-use Prim.Native.Nat.{ℕ, zero, suc, _+_, _-_, _*_, _≤_, _<_, _/_, min}
+use mathlib.Core.List.{List, [], _∷_, _++_, map}
+use mathlib.Core.Bool.{Bool, true, false, cond}
+use Prim.Native.Nat.{ℕ, suc, _+_, _-_, _≤_, _<_}
 use native.Mathlib.Omega.{arith}
-use lib.ListN.{length, take, drop, getD, set, length-append, length-map, length-take, length-drop}
+use lib.ListN.{length, take, drop, length-map}
 use lib.Seq.{take-append-seam, drop-append-seam}
-use lib.Dec.{ltb, eqb, leb}
-use borrow.Author.Tests.{lt-ltb, le-ltb, ltb-true, ltb-false, eqb-true, eqb-false, eq-eqb, ne-eqb, le-leb, lt-leb, leb-true, leb-false}
-use Rattle.forest.specs.Lists.{insertAt, removeAt, sum, total, count, pad, parent, offset}
+use lib.Dec.{ltb, eqb}
+use borrow.Author.Tests.{ltb-true, ltb-false, eqb-false, ne-eqb}
+use Rattle.forest.specs.Lists.{removeAt, sum, pad, parent, offset}
 use Rattle.forest.specs.Pairs.{Item}
-use Rattle.forest.specs.Rows.{Node, Row, node, size, front, nums, sizes, joined, line, itemsAt, Fill, least, dropRow, rekey, refresh}
-use Rattle.forest.specs.Trees.{numbers, dropAt, dropUp, freedUp, lost}
-use Rattle.forest.specs.Pools.{innerWords, pushAll}
-use Rattle.forest.proofs.ListLaws.{Test, is, isnt, test, tests, total-append, parent-lt, offset-lt, parent-start, length-removeAt, cons-eq, map-append}
-use Rattle.forest.proofs.RowLaws.{sum-sizes, length-line, length-items, fill-at}
-use Rattle.heal.proofs.HealRows
-use Rattle.heal.proofs.HealStack
-use Rattle.heal.proofs.HealMem
-use Rattle.heal.proofs.HealPath
-use Rattle.heal.proofs.HealStep
-use Rattle.heal.proofs.HealUp.{Lawful, Mended, Where, here, past, empty-up, heal-some, heal-none, dropUp-shape, freedUp-shape}
-use Rattle.heal.specs.States.{State, Ops, stored, healLevel, emptyNode, parentCut, newFront, fronted, removeAtCursor}
+use Rattle.forest.specs.Rows.{Row, size, front, nums, sizes, joined, line, itemsAt, Fill, dropRow, rekey, refresh}
+use Rattle.forest.specs.Trees.{numbers, dropUp, lost}
+use Rattle.forest.specs.Pools.{innerWords}
+use Rattle.forest.proofs.ListLaws.{is, isnt, test, total-append, parent-lt, offset-lt, length-removeAt, cons-eq}
+use Rattle.forest.proofs.RowLaws.{length-items, fill-at}
+use Rattle.crit.specs.States.{State, stored}
+use Rattle.heal.specs.Steps.{Ops, healLevel, emptyNode, parentCut, fronted, removeAtCursor}
 use Rattle.heal.specs.Wounds.{Within, Wounded, alive, dead}
+use Rattle.crit.proofs.HealRows
+use Rattle.crit.proofs.HealStack
+use Rattle.crit.proofs.HealMem
+use Rattle.crit.proofs.HealPath
+use Rattle.crit.proofs.HealNext
+use Rattle.heal.proofs.HealStep
+use Rattle.heal.proofs.HealUp.{Lawful, Mended, empty-up, heal-some, heal-none, dropUp-shape, freedUp-shape}
 
 -- Rows that are stacked up to first keys, brought up to date: the words are the same
 rekey-joined : (S : Row) → rekey (joined S) S ≡ S
@@ -94,7 +95,7 @@ module _ {enc : List Item → List ℕ} {cap low : ℕ} {leaf inner : Ops} (leaf
     keepsB = HealMem.put-keeps (s .st) (s .ns (length Rs)) (leaf .cut (s .st (s .ns (length Rs))) (s .ps (length Rs))) (nums L) (rw name (HealMem.numAt-counts L (parent (sizes L) i) par-in))
 
     upB : HealMem.HoldsUp (sB .st) Rs
-    upB = HealMem.up-keeps (s .st) (sB .st) (nums L) Rs keepsB apart up
+    upB = HealMem.up-apart (s .st) (sB .st) (nums L) Rs keepsB apart up
 
     sum-L : suc (length (removeAt (offset (sizes L) i) (itemsAt L (parent (sizes L) i)))) ≡ length (itemsAt L (parent (sizes L) i))
     sum-L = length-removeAt (offset (sizes L) i) (itemsAt L (parent (sizes L) i)) off-in
@@ -103,15 +104,15 @@ module _ {enc : List Item → List ℕ} {cap low : ℕ} {leaf inner : Ops} (leaf
     convert : (M : Row) (w : Bool) (Rs1 : List Row) (st : HealMem.Store) (s′ : State) → HealStack.SameShape Rs1 Rs → HealMem.Keeps (s .st) st (nums L ++ numbers Rs) →
         Mended enc M w i L Rs1 (stored s st) s′ → Mended enc M w i L Rs s s′
     convert M w Rs1 st s′ shape k m =
-        let ln = HealStep.shape-length shape in
+        let ln = HealNext.shape-length shape in
         record {
           rows = m .rows;
           shape = HealStack.same-trans (m .shape) (either w);
           stacked = m .stacked;
           row = m .row;
           up = m .up;
-          keeps = λ x c. m .keeps x (rw (HealStep.shape-numbers shape) c) ∙ k x c;
-          zeros = λ x c d. m .zeros x (rw (HealStep.shape-numbers shape) c) d;
+          keeps = λ x c. m .keeps x (rw (HealNext.shape-numbers shape) c) ∙ k x c;
+          zeros = λ x c d. m .zeros x (rw (HealNext.shape-numbers shape) c) d;
           free = rw (← (freedUp-shape (parent (sizes L) i) shape)) (m .free);
           deeper = λ l d. m .deeper l (rw ln d);
           places = λ l d. m .places l (rw ln d);
@@ -153,19 +154,19 @@ module _ {enc : List Item → List ℕ} {cap low : ℕ} {leaf inner : Ops} (leaf
               let f : fronted leaf cap inner key sB (length Rs) ≡ stored s st2 =
               (let e2 : eqb (s .ps (length Rs)) 0 ≡ true = rw place e in simp (nz, e2) (ap (λ (x : ℕ). stored s (HealPath.leftSet (sB .st) (s .ns) (s .ps) (length Rs) x)) kk)) in
               let keepsF : HealMem.Keeps (sB .st) st2 (numbers Rs) = HealPath.leftSet-keeps (sB .st) (s .ns) (s .ps) L (parent (sizes L) i) k Rs par-in stacked upB path in
-              let rowF : HealMem.Holds enc st2 C = HealMem.holds-keeps enc (sB .st) st2 (numbers Rs) C keepsF (λ x. rw (HealRows.upd-nums (parent (sizes L) i) (removeAt (offset (sizes L) i)) L) (omega (arith, apart x))) rowB in
+              let rowF : HealMem.Holds enc st2 C = HealMem.holds-apart enc (sB .st) st2 (numbers Rs) C keepsF (λ x. rw (HealRows.upd-nums (parent (sizes L) i) (removeAt (offset (sizes L) i)) L) (omega (arith, apart x))) rowB in
               let stackedC : HealStack.Stacked C Rs1 =
               HealStack.setKey-stacked L C Rs (parent (sizes L) i) k par-in (HealStack.alike-same (sym (HealRows.upd-line (parent (sizes L) i) (removeAt (offset (sizes L) i)) L))) stacked in
               let shape = HealStack.setKey-shape (parent (sizes L) i) k Rs in
-              let ln : length Rs1 ≡ length Rs = HealStep.shape-length shape in
+              let ln : length Rs1 ≡ length Rs = HealNext.shape-length shape in
               rw f (convert M (lost M L) Rs1 st2 (healLevel leaf cap (emptyNode inner (length Rs)) (length Rs) (stored s st2)) shape
               (λ x c.
               let z = rw (total-append (λ z. Rattle.forest.specs.Lists.once (eqb x z)) (nums L) (numbers Rs)) at c in
               keepsF x (omega arith) ∙ keepsB x (omega arith))
               (subst (λ (n : ℕ). Mended enc M (lost M L) i L Rs1 (stored s st2) (healLevel leaf cap (emptyNode inner (length Rs)) n (stored s st2))) ln
-              (heal-some leaf-law (emptyNode inner (length Rs)) i L Rs1 (rw ln (empty-up inner-law (length Rs))) (stored s st2) b fill (rw (HealStep.shape-numbers shape) once)
+              (heal-some leaf-law (emptyNode inner (length Rs)) i L Rs1 (rw ln (empty-up inner-law (length Rs))) (stored s st2) b fill (rw (HealNext.shape-numbers shape) once)
               (HealPath.leftSet-holds (sB .st) (s .ns) (s .ps) L (parent (sizes L) i) k Rs par-in stacked (λ x. omega (arith, apart x)) upB path)
-              (rw ln place) (HealStep.path-shape L L (parent (sizes L) i) (s .ns) (s .ps) refl (HealStack.same-sym shape) path) some-xs stackedC rowF)))
+              (rw ln place) (HealNext.path-shape L L (parent (sizes L) i) (s .ns) (s .ps) refl (HealStack.same-sym shape) path) some-xs stackedC rowF)))
           | isnt e ↦
               let f : fronted leaf cap inner key sB (length Rs) ≡ sB = simp (nz, place, e) in
               let stackedC : HealStack.Stacked C Rs =
@@ -213,11 +214,11 @@ module _ {enc : List Item → List ℕ} {cap low : ℕ} {leaf inner : Ops} (leaf
               let f : fronted leaf cap inner key sB (length Rs) ≡ stored s st2 =
               (let e2 : eqb (s .ps (length Rs)) 0 ≡ true = rw place e in simp (nz, e2) (ap (λ (x : ℕ). stored s (HealPath.leftSet (sB .st) (s .ns) (s .ps) (length Rs) x)) kk)) in
               let keepsF : HealMem.Keeps (sB .st) st2 (numbers Rs) = HealPath.leftSet-keeps (sB .st) (s .ns) (s .ps) L (parent (sizes L) i) k Rs par-in stacked upB path in
-              let rowF : HealMem.Holds enc st2 C = HealMem.holds-keeps enc (sB .st) st2 (numbers Rs) C keepsF (λ x. rw (HealRows.upd-nums (parent (sizes L) i) (removeAt (offset (sizes L) i)) L) (omega (arith, apart x))) rowB in
+              let rowF : HealMem.Holds enc st2 C = HealMem.holds-apart enc (sB .st) st2 (numbers Rs) C keepsF (λ x. rw (HealRows.upd-nums (parent (sizes L) i) (removeAt (offset (sizes L) i)) L) (omega (arith, apart x))) rowB in
               let stackedC : HealStack.Stacked C Rs1 =
               HealStack.setKey-stacked L C Rs (parent (sizes L) i) k par-in (HealStack.alike-same (sym (HealRows.upd-line (parent (sizes L) i) (removeAt (offset (sizes L) i)) L))) stacked in
               let shape = HealStack.setKey-shape (parent (sizes L) i) k Rs in
-              let ln : length Rs1 ≡ length Rs = HealStep.shape-length shape in
+              let ln : length Rs1 ≡ length Rs = HealNext.shape-length shape in
               rw f (record {
                 row = L;
                 at = i;
@@ -225,10 +226,10 @@ module _ {enc : List Item → List ℕ} {cap low : ℕ} {leaf inner : Ops} (leaf
                 level = ln;
                 inside = b;
                 fill = fill;
-                within = rw (HealStep.shape-numbers shape) within;
+                within = rw (HealNext.shape-numbers shape) within;
                 up = HealPath.leftSet-holds (sB .st) (s .ns) (s .ps) L (parent (sizes L) i) k Rs par-in stacked (λ x. omega (arith, apart x)) upB path;
                 place = rw ln place;
-                path = HealStep.path-shape L L (parent (sizes L) i) (s .ns) (s .ps) refl (HealStack.same-sym shape) path;
+                path = HealNext.path-shape L L (parent (sizes L) i) (s .ns) (s .ps) refl (HealStack.same-sym shape) path;
                 left = alive two stackedC rowF;
               })
           | isnt e ↦

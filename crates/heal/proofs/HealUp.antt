@@ -1,28 +1,29 @@
 -- PROOFS. Healing upward: empty_node cuts the parent, which heals in turn
 use mathlib.Core.Path.{_≡_, refl, sym, ap, _∙_, subst}
-use mathlib.Core.List.{List, [], _∷_, _++_, append-assoc, append-nil, map}
-use mathlib.Core.Bool.{Bool, true, false, cond, true≢false}
-use mathlib.Core.Option.{Option, none, some}
-use Prim.Native.Nat.{ℕ, zero, suc, _+_, _-_, _*_, _≤_, _<_, _/_, min}
+use mathlib.Core.List.{List, [], _∷_, _++_}
+use mathlib.Core.Bool.{Bool, true, false, cond}
+use mathlib.Core.Option.{some}
+use Prim.Native.Nat.{ℕ, zero, suc, _+_, _-_, _≤_, _<_}
 use native.Mathlib.Omega.{arith}
-use native.Mathlib.Nat.{zero-add, suc-add}
-use lib.ListN.{length, take, drop, getD, set, length-append, length-map, length-take, length-drop}
-use lib.Dec.{ltb, eqb, leb}
-use borrow.Author.Tests.{lt-ltb, le-ltb, ltb-true, ltb-false, eqb-true, eqb-false, eq-eqb, ne-eqb, le-leb, lt-leb, leb-true, leb-false}
-use Rattle.forest.specs.Lists.{insertAt, removeAt, sum, once, total, count, pad, parent, offset}
+use lib.ListN.{length, getD}
+use lib.Dec.{ltb, eqb}
+use borrow.Author.Tests.{ltb-true, ltb-false, eqb-true, eq-eqb, ne-eqb}
+use Rattle.forest.specs.Lists.{removeAt, sum, once, count, pad, parent, offset}
 use Rattle.forest.specs.Pairs.{Item}
-use Rattle.forest.specs.Rows.{Node, Row, node, size, front, nums, sizes, joined, line, itemsAt, Fill, least, dropRow, alone, heal, without}
-use Rattle.forest.specs.Trees.{numbers, dropAt, dropUp, freedUp, lost}
-use Rattle.forest.specs.Pools.{innerWords, pushAll}
-use Rattle.forest.proofs.ListLaws.{Test, is, isnt, test, tests, total-append, parent-lt, offset-lt, parent-start, length-removeAt, cons-eq, map-append}
-use Rattle.forest.proofs.RowLaws.{sum-sizes, length-line, length-items, fill-at, dropRow-joined, dropRow-fill}
-use Rattle.heal.proofs.HealRows
-use Rattle.heal.proofs.HealStack
-use Rattle.heal.proofs.HealMem
-use Rattle.heal.proofs.HealPath
-use Rattle.heal.proofs.HealStep
-use Rattle.heal.specs.States.{State, Ops, freeNode, stored, lives, nodeAt, nextWith, nextNode, settled, underWith, underflowed, healLevel, parentCut, emptyFrom, emptyWith, emptyNode}
+use Rattle.forest.specs.Rows.{Row, front, nums, sizes, joined, line, itemsAt}
+use Rattle.forest.specs.Trees.{numbers, dropAt, dropUp, lost}
+use Rattle.forest.specs.Pools.{innerWords}
+use Rattle.forest.proofs.ListLaws.{is, isnt, test, total-append, offset-lt, parent-start, length-removeAt}
+use Rattle.forest.proofs.RowLaws.{length-line, dropRow-joined, dropRow-fill}
+use Rattle.crit.specs.States.{State, lives, nodeAt, settled}
+use Rattle.heal.specs.Steps.{Ops, freeNode, healLevel, parentCut, emptyFrom, emptyWith, emptyNode}
 use Rattle.heal.specs.Wounds.{Left, alive, dead, Wounded, Within}
+use Rattle.crit.proofs.HealRows
+use Rattle.crit.proofs.HealStack
+use Rattle.crit.proofs.HealMem
+use Rattle.crit.proofs.HealPath
+use Rattle.crit.proofs.HealNext
+use Rattle.heal.proofs.HealStep
 pub use Rattle.heal.proofs.HealShape.{Lawful, Where, here, past, Exit, Heals, Mended, dropUp-shape, freedUp-shape}
 pub use Rattle.heal.proofs.HealLevel.{heal-some, heal-none}
 
@@ -56,7 +57,7 @@ module _ {o : Ops} (law : Lawful o innerWords 8 4) (up : State → State) (R R�
   keepsA = HealMem.put-keeps (s .st) (HealRows.numAt R j) (pad 16 []) (HealRows.numAt R j ∷ []) (simp (eq-eqb (HealRows.numAt R j) (HealRows.numAt R j) refl) (omega arith))
 
   huA : HealMem.HoldsUp (sA .st) (S ∷ Ss)
-  huA = HealMem.up-keeps (s .st) (sA .st) (HealRows.numAt R j ∷ []) (S ∷ Ss) keepsA (λ x. omega (arith, once x)) hu
+  huA = HealMem.up-apart (s .st) (sA .st) (HealRows.numAt R j ∷ []) (S ∷ Ss) keepsA (λ x. omega (arith, once x)) hu
 
   at-S : HealPath.Here (sA .st) (s .ns) (s .ps) S j (length Ss)
   at-S = HealPath.here (sA .st) (s .ns) (s .ps) S Ss j b-in (stacked .1) (huA .0) (p .1) (p .2)
@@ -71,7 +72,7 @@ module _ {o : Ops} (law : Lawful o innerWords 8 4) (up : State → State) (R R�
   keepsB = HealMem.put-keeps (sA .st) (s .ns (length Ss)) (o .cut (sA .st (s .ns (length Ss))) (s .ps (length Ss))) (nums S) (rw name-S (HealMem.numAt-counts S (parent (sizes S) j) (at-S .par)))
 
   huB : HealMem.HoldsUp (sB .st) Ss
-  huB = HealMem.up-keeps (sA .st) (sB .st) (nums S) Ss keepsB (λ x. omega (arith, counts x)) (huA .1)
+  huB = HealMem.up-apart (sA .st) (sB .st) (nums S) Ss keepsB (λ x. omega (arith, counts x)) (huA .1)
 
   remains : Left innerWords S j Ss sB
   remains = elim (test (ltb 1 (length (itemsAt S (parent (sizes S) j))))) [
@@ -144,7 +145,7 @@ module _ {o : Ops} (law : Lawful o innerWords 8 4) (up : State → State) (R R�
       shift (suc j) (x ∷ xs) = shift j xs
 
   rows-length : length (mended .rows) ≡ length Ss
-  rows-length = HealStep.shape-length (mended .shape) ∙ either (lost (dropAt j S) S)
+  rows-length = HealNext.shape-length (mended .shape) ∙ either (lost (dropAt j S) S)
     where
       up-length : (i : ℕ) (Ss : List Row) → length (dropUp i Ss) ≡ length Ss
       up-length i [] = refl
@@ -176,7 +177,7 @@ module _ {o : Ops} (law : Lawful o innerWords 8 4) (up : State → State) (R R�
               mended .keeps x (rw (total-append (λ z. Rattle.forest.specs.Lists.once (eqb x z)) (nums S) (numbers Ss)) (omega arith)) ∙ keepsB x (omega arith) ∙ simp e
           | isnt e ↦ let c3 : 1 ≤ 0 + (count x (nums S) + count x (numbers Ss)) = simp e at c2 in mended .zeros x (omega arith) d2
         ];
-    free = f ∙ rw (← (HealStep.numAt-nums S (parent (sizes S) j))) (mended .free);
+    free = f ∙ rw (← (HealNext.numAt-nums S (parent (sizes S) j))) (mended .free);
     deeper = λ x d. n-same x d ∙ mended .deeper x (omega arith);
     places = λ x d. ap (λ (q : ℕ → ℕ). q x) p-same ∙ mended .places x (omega arith);
     stands = w;
@@ -193,7 +194,7 @@ module _ {o : Ops} (law : Lawful o innerWords 8 4) (up : State → State) (R R�
           | here a w v ↦ here (omega (arith, length-R′)) (
             simp (rows-length, eq-eqb (suc (length Ss)) (suc (length Ss)) refl) (right-name q),
             rw rows-length (w .0),
-            HealStep.path-deeper (dropAt j S) (parent (sizes (dropAt j S)) j) (mended .rows) (sC .ns) (sC .ps) (HealStep.at (sC .ns) (suc (length Ss)) (HealRows.numAt R (suc j))) (sC .ps)
+            HealNext.path-deeper (dropAt j S) (parent (sizes (dropAt j S)) j) (mended .rows) (sC .ns) (sC .ps) (HealNext.at (sC .ns) (suc (length Ss)) (HealRows.numAt R (suc j))) (sC .ps)
                 (λ x d. simp (ne-eqb x (suc (length Ss)) (omega (arith, rows-length)))) (λ x d. refl) (w .1),
           ) v
           | past a v ↦ absurd (omega (arith, drop-total, length-R′))

@@ -1,16 +1,15 @@
 -- PROOFS. The operations on an inner node's words do to items what they should
-use mathlib.Core.Path.{_≡_, refl, ap}
-use mathlib.Core.List.{List, _++_}
-use Prim.Native.Nat.{ℕ, _+_, _-_, _≤_}
+use mathlib.Core.Path.{refl, ap}
+use mathlib.Core.List.{_++_}
+use Prim.Native.Nat.{_+_, _-_}
 use native.Mathlib.Omega.{arith}
-use lib.ListN.{length, length-append}
-use Rattle.forest.specs.Pairs.{Item}
+use lib.ListN.{length-append}
 use Rattle.forest.specs.Rows.{front}
 use Rattle.forest.specs.Pools.{innerWords}
 use Rattle.node.specs.Nodes.{keep}
 use Rattle.node.proofs.Words.{inner-first, take-first, drop-first, length-rekeyAt}
 use Rattle.node.proofs.OnItems.{inner-cut, inner-cut-last, inner-both}
-use Rattle.heal.specs.States.{innerOps}
+use Rattle.heal.specs.Steps.{innerOps}
 use Rattle.heal.proofs.HealShape.{Lawful}
 
 pub inner-law : Lawful innerOps innerWords 8 4

@@ -1,34 +1,34 @@
 -- PROOFS. A cut, a node that stays small, two neighbours that join: over the kind of the nodes
 use mathlib.Core.Path.{_≡_, refl, sym, ap, _∙_, subst}
-use mathlib.Core.List.{List, [], _∷_, _++_}
-use mathlib.Core.Bool.{Bool, true, false, cond, true≢false}
-use mathlib.Core.Option.{Option, none, some}
-use Prim.Native.Nat.{ℕ, zero, suc, _+_, _-_, _*_, _≤_, _<_}
+use mathlib.Core.List.{List}
+use mathlib.Core.Bool.{true, false, true≢false}
+use mathlib.Core.Option.{some}
+use Prim.Native.Nat.{ℕ, _+_, _-_, _≤_, _<_}
 use native.Mathlib.Omega.{arith}
-use lib.ListN.{length, getD, set, take, drop}
-use lib.Dec.{ltb, leb, eqb}
-use borrow.Author.Tests.{lt-ltb, le-ltb, eq-eqb, ne-eqb}
-use Rattle.forest.specs.Lists.{removeAt, pad, count, parent, offset}
+use lib.ListN.{length, getD, take, drop}
+use lib.Dec.{ltb, leb}
+use borrow.Author.Tests.{lt-ltb, le-ltb}
+use Rattle.forest.specs.Lists.{removeAt, count, parent, offset}
 use Rattle.forest.specs.Pairs.{Item}
 use Rattle.forest.specs.Rows.{front, nums, sizes}
 use Rattle.forest.specs.declared.Cursor.{Cursor}
-use Rattle.forest.proofs.ListLaws.{Test, is, isnt, test, length-removeAt, offset-lt}
+use Rattle.forest.proofs.ListLaws.{is, isnt, test, length-removeAt, offset-lt}
 use Rattle.forest.proofs.RowLaws.{fill-at}
-use Rattle.pool.specs.Stores.{Store, put, block, withBlock, noWords, Placed}
+use Rattle.pool.specs.Stores.{put, block, withBlock, Placed}
 use Rattle.node.specs.Nodes.{statusOf, keep, balanceOf}
 use Rattle.node.specs.declared.Balanced.{Balanced}
 use Rattle.node.specs.declared.Removed.{Removed}
 use Rattle.node.specs.declared.Removed.the-variants.{Underflow}
 use Rattle.node.proofs.OnItems.{balance-flag, balance-fits, balance-over}
-use Rattle.heal.specs.States.{State, rightSibling, rightSet, handKey, parentCut, stored}
-use Rattle.heal.specs.Asks.{Mem, moved, Spelt, Way, Leaves, Finds, nearOf}
-use Rattle.heal.specs.Cycle.{Kind, left, standing, fits, gathered, shared, stayed, AskHeal, AskJoin, Joined, Cuts}
-use Rattle.heal.specs.declared.Near.{Near}
-use Rattle.heal.proofs.HealMem
+use Rattle.crit.specs.States.{rightSibling, rightSet, handKey, stored}
+use Rattle.crit.specs.Asks.{Mem, moved, Spelt, Way, Leaves, nearOf}
+use Rattle.crit.specs.declared.Near.{Near}
+use Rattle.heal.specs.Cycle.{Kind, left, fits, gathered, shared, stayed, AskHeal, AskJoin, Joined, Cuts}
+use Rattle.crit.proofs.HealMem
+use Rattle.crit.proofs.SpeltLaws.{spelt-block, spelt-placed, spelt-store, same-count}
+use Rattle.crit.proofs.RightLaws.{near-some}
+use Rattle.crit.proofs.NextLaws.{spelt-off}
 use Rattle.heal.proofs.HealUp.{Lawful}
-use Rattle.heal.proofs.SpeltLaws.{spelt-block, spelt-placed, spelt-store, same-count}
-use Rattle.heal.proofs.RightLaws.{near-some}
-use Rattle.heal.proofs.NextLaws.{spelt-off}
 use Rattle.heal.proofs.WoundLaws.{Held, held-here, held-mate}
 use Rattle.heal.proofs.CycleLaws.{heal-way-put, some-left}
 

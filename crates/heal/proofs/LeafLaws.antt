@@ -1,7 +1,7 @@
 -- PROOFS. Leaves: the cut at the cursor, a leaf that stays small, the pairs of two neighbours
-use mathlib.Core.Path.{_≡_, refl, sym, ap, _∙_, subst}
-use mathlib.Core.List.{List, [], _∷_, _++_}
-use Prim.Native.Nat.{ℕ, zero, suc, _+_, _-_, _*_, _≤_, _<_}
+use mathlib.Core.Path.{_≡_, sym, ap, _∙_, subst}
+use mathlib.Core.List.{List, _++_}
+use Prim.Native.Nat.{ℕ, _+_, _-_, _≤_, _<_}
 use native.Mathlib.Omega.{arith}
 use lib.ListN.{length, getD, length-append, length-map}
 use lib.Dec.{eqb}
@@ -13,43 +13,41 @@ use Rattle.forest.specs.Pools.{leafWords}
 use Rattle.forest.specs.declared.Cursor.{Cursor}
 use Rattle.forest.proofs.ListLaws.{total-append, parent-lt, offset-lt}
 use Rattle.forest.proofs.RowLaws.{fill-at, length-items}
-use Rattle.forest.proofs.CountLaws.{length-pad}
-use Rattle.pool.specs.Stores.{Store, put, block, withBlock, Placed}
+use Rattle.pool.specs.Stores.{Store, block, withBlock, Placed}
 use Rattle.node.specs.Nodes.{Leaf, leafPairs, leafCut, statusOf}
 use Rattle.node.specs.declared.Removed.{Removed}
 use Rattle.node.specs.declared.Removed.the-variants.{Underflow}
 use Rattle.node.proofs.Words.{leaf-is, length-pairs}
-use Rattle.heal.specs.States.{leafOps, stored}
-use Rattle.heal.specs.Wounds.{numAt}
-use Rattle.heal.specs.Asks.{Mem, moved, Spelt, Way, Leaves}
+use Rattle.crit.specs.Paths.{numAt}
+use Rattle.crit.specs.Asks.{moved, Leaves}
+use Rattle.heal.specs.Steps.{leafOps}
 use Rattle.heal.specs.Cycle.{leafKind, stayed, AskHeal, AskFront, Cuts, Stood}
+use Rattle.crit.proofs.HealMem
+use Rattle.crit.proofs.HealPath
+use Rattle.crit.proofs.SpeltLaws.{spelt-block, spelt-placed}
 use Rattle.heal.proofs.HealUp.{Lawful}
-use Rattle.heal.proofs.HealMem
-use Rattle.heal.proofs.HealPath
 use Rattle.heal.proofs.LeafOps
-use Rattle.heal.proofs.SpeltLaws.{spelt-block, spelt-placed, within-named}
+use Rattle.heal.proofs.FreeLaws.{within-named}
 use Rattle.heal.proofs.WoundLaws.{Held}
 use Rattle.heal.proofs.JoinLaws
 use Rattle.heal.proofs.HealReady.{within-once}
+pub use Rattle.forest.proofs.CountLaws.{leaf-length}
 
 pub leaf-law : Lawful leafOps leafWords 7 3
 leaf-law = LeafOps.leaf-law 3 (omega arith) (omega arith)
 
-pub leaf-sixteen : (xs : List Item) → length (leafWords xs) ≡ 16
-leaf-sixteen xs = simp (length-append, length-pad)
-
 module _ {ws : List ℕ} {t : ℕ} {c : Cursor} {level : ℕ} (a : AskHeal leafKind ws t c Underflow level) (w : List ℕ) (e : w ≡ block ws t (getD (c .nodes) level 0)) where
   abbrev items : List Item
-  items = (JoinLaws.here leafKind leaf-law leaf-sixteen a) .items
+  items = (JoinLaws.here leafKind leaf-law leaf-length a) .items
 
   count-is : getD w 0 0 ≡ 32 + length items
-  count-is = rw (JoinLaws.here-words leafKind leaf-law leaf-sixteen a w e)
+  count-is = rw (JoinLaws.here-words leafKind leaf-law leaf-length a w e)
 
   pub small-on : getD (c .places) level 0 + 32 < getD w 0 0 → Leaves (λ s. stayed leafKind s level) ws ws t c c
-  small-on h = JoinLaws.stays-on leafKind leaf-law leaf-sixteen a (omega (arith, count-is))
+  small-on h = JoinLaws.stays-on leafKind leaf-law leaf-length a (omega (arith, count-is))
 
   pub small-off : {r : Cursor} → getD w 0 0 ≤ getD (c .places) level 0 + 32 → r .nodes ≡ c .nodes → r .places ≡ c .places → r .tree ≡ c .tree → r .size ≡ 0 → Leaves (λ s. stayed leafKind s level) ws ws t c r
-  small-off h = JoinLaws.stays-off leafKind leaf-law leaf-sixteen a (omega (arith, count-is))
+  small-off h = JoinLaws.stays-off leafKind leaf-law leaf-length a (omega (arith, count-is))
 
 pub both-length : (w v : List ℕ) → length (leafPairs w ++ leafPairs v) ≡ (getD w 0 0 - 32) + (getD v 0 0 - 32)
 both-length w v = length-append (leafPairs w) (leafPairs v) ∙ rw (length-pairs w, length-pairs v)
@@ -105,7 +103,7 @@ module _ {ws : List ℕ} {t : ℕ} {c : Cursor} {level : ℕ} (a : Stood ws t c 
         Cuts leafKind ws vs t c level status
     leaf-cut v cq q =
         let z : getD w 0 0 - 33 ≡ length xs - 1 = omega (arith, w-count) in
-        JoinLaws.cuts leafKind leaf-law leaf-sixteen level xs (a .spelt) (a .deep) (leaf-named .0) (leaf-named .1) words (omega (arith, leaf-place, off-in)) few-xs
+        JoinLaws.cuts leafKind leaf-law leaf-length level xs (a .spelt) (a .deep) (leaf-named .0) (leaf-named .1) words (omega (arith, leaf-place, off-in)) few-xs
         (v ∙ ap (withBlock ws t (getD (c .nodes) level 0)) cq ∙ ap (λ (x : List ℕ). withBlock ws t (getD (c .nodes) level 0) (leafCut x (getD (c .places) level 0))) (e ∙ words))
         (q ∙ ap (statusOf 7 (getD (c .places) level 0)) z)
 
@@ -123,7 +121,7 @@ module _ {ws : List ℕ} {t : ℕ} {c : Cursor} {level : ℕ} (a : Stood ws t c 
       inside = par-in;
       stacked = a .stacked;
       named = λ x h. within-named (a .mem .count) (nums (a .row) ++ numbers (a .rows)) (a .mem .s .free) (a .within) x (omega (arith, total-append (λ z. once (eqb x z)) (nums (a .row)) (numbers (a .rows))));
-      up = HealMem.up-keeps (a .mem .s .st) _ (nums (a .row)) (a .rows)
+      up = HealMem.up-apart (a .mem .s .st) _ (nums (a .row)) (a .rows)
           (HealMem.put-keeps (a .mem .s .st) (a .mem .s .ns level) _ (nums (a .row)) (rw (← (a .spelt .nodes level (a .deep))) inside-count))
           (HealMem.once-append (nums (a .row)) (numbers (a .rows)) (within-once (a .mem .count) (nums (a .row) ++ numbers (a .rows)) (a .mem .s .free) (a .within))) (a .up);
       path = a .path;

@@ -1,14 +1,14 @@
 -- PROOFS. The operations on a leaf's words do to pairs what they should, over the minimum of a leaf that is not the last
 use mathlib.Core.Path.{_≡_, refl}
 use mathlib.Core.List.{List, [], _∷_}
-use Prim.Native.Nat.{ℕ, _+_, _-_, _*_, _≤_}
+use Prim.Native.Nat.{ℕ, _-_, _*_, _≤_}
 use native.Mathlib.Omega.{arith}
 use lib.ListN.{length, getD}
 use Rattle.forest.specs.Pairs.{Item}
 use Rattle.forest.specs.Rows.{front}
 use Rattle.forest.specs.Pools.{leafWords}
 use Rattle.node.proofs.OnItems.{leaf-cut, leaf-cut-last, leaf-both}
-use Rattle.heal.specs.States.{leafOps}
+use Rattle.heal.specs.Steps.{leafOps}
 use Rattle.heal.proofs.HealShape.{Lawful}
 
 pub leaf-law : (low : ℕ) → 2 ≤ low → 2 * low ≤ 8 → Lawful leafOps leafWords 7 low

@@ -1,29 +1,30 @@
 -- PROOFS. The words of a wounded node and of its right neighbour; storing them leaves the way as it is
-use mathlib.Core.Path.{_≡_, refl, sym, ap, _∙_, subst}
-use mathlib.Core.List.{List, [], _∷_, _++_}
-use mathlib.Core.Bool.{Bool, true, false, cond}
-use mathlib.Core.Option.{Option, none, some}
-use Prim.Native.Nat.{ℕ, zero, suc, _+_, _-_, _*_, _≤_, _<_}
+use mathlib.Core.Path.{_≡_, sym, ap, _∙_}
+use mathlib.Core.List.{List, [], _++_}
+use mathlib.Core.Option.{some}
+use Prim.Native.Nat.{ℕ, suc, _+_, _-_, _≤_, _<_}
 use native.Mathlib.Omega.{arith}
-use lib.ListN.{length, getD, set, length-map}
-use lib.Dec.{ltb, leb, eqb}
-use borrow.Author.Tests.{ltb-true, ltb-false, eq-eqb}
-use Rattle.forest.specs.Lists.{removeAt, once, total, count, parent, offset, sum}
+use lib.ListN.{length, getD, length-map}
+use lib.Dec.{ltb, eqb}
+use borrow.Author.Tests.{ltb-true, ltb-false}
+use Rattle.forest.specs.Lists.{removeAt, once, count, parent, offset}
 use Rattle.forest.specs.Pairs.{Item}
 use Rattle.forest.specs.Rows.{Row, size, nums, sizes, itemsAt, front}
 use Rattle.forest.specs.Trees.{numbers}
-use Rattle.forest.proofs.ListLaws.{Test, is, isnt, test, total-append, length-removeAt, offset-lt}
+use Rattle.forest.proofs.ListLaws.{is, isnt, test, total-append, length-removeAt}
 use Rattle.forest.proofs.RowLaws.{length-items, fill-at}
-use Rattle.pool.specs.Stores.{Store, put}
-use Rattle.heal.specs.States.{State, Ops, rightSibling}
-use Rattle.heal.specs.Wounds.{numAt, Wounded, Left, alive, dead, cutRow}
-use Rattle.heal.proofs.HealRows
-use Rattle.heal.proofs.HealStack
-use Rattle.heal.proofs.HealMem
-use Rattle.heal.proofs.HealPath
+use Rattle.pool.specs.Stores.{Store}
+use Rattle.crit.specs.States.{State, rightSibling}
+use Rattle.crit.specs.Paths.{numAt}
+use Rattle.heal.specs.Steps.{Ops}
+use Rattle.heal.specs.Wounds.{Wounded, alive, dead, cutRow}
+use Rattle.crit.proofs.HealRows
+use Rattle.crit.proofs.HealStack
+use Rattle.crit.proofs.HealMem
+use Rattle.crit.proofs.HealPath
 use Rattle.heal.proofs.HealUp.{Lawful}
-use Rattle.heal.proofs.HealReady.{par-in, len-C, pathC, name-C, off-in}
-use Rattle.heal.proofs.SpeltLaws.{within-named}
+use Rattle.heal.proofs.HealReady.{par-in, len-C, pathC, off-in}
+use Rattle.heal.proofs.FreeLaws.{within-named}
 
 -- a node of a row, with its words
 pub record Held (enc : List Item → List ℕ) (cap N : ℕ) (R : Row) (st : Store) (n : ℕ) : Type 0 where

@@ -1,11 +1,11 @@
 -- DEFINITIONS. The cycle of three over words: what heal_level, underflowed_node and empty_node ask and leave, over the kind of the nodes at a level
 use mathlib.Core.Path.{_≡_}
-use mathlib.Core.List.{List, [], _∷_, _++_}
+use mathlib.Core.List.{List, _++_}
 use mathlib.Core.Bool.{Bool, true, false, cond}
-use mathlib.Core.Option.{Option, none, some}
-use Prim.Native.Nat.{ℕ, zero, suc, _+_, _-_, _*_, _≤_, _<_}
+use mathlib.Core.Option.{some}
+use Prim.Native.Nat.{ℕ, _+_, _-_, _≤_, _<_}
 use lib.ListN.{length, getD}
-use lib.Dec.{ltb, leb, eqb}
+use lib.Dec.{ltb, leb}
 use Rattle.forest.specs.Sizes.{mostLevels, leafCap, innerCap, leafLeast, innerLeast}
 use Rattle.forest.specs.Lists.{sum, parent, offset}
 use Rattle.forest.specs.Pairs.{Item}
@@ -17,10 +17,12 @@ use Rattle.pool.specs.Stores.{put}
 use Rattle.node.specs.Nodes.{statusOf}
 use Rattle.node.specs.declared.Removed.{Removed}
 use Rattle.node.specs.declared.Removed.the-variants.{Underflow}
-use Rattle.heal.specs.States.{State, Ops, leafOps, innerOps, rightSet, handKey, stored, lives, parentCut, healLevel, underflowed, emptyNode}
-use Rattle.heal.specs.Wounds.{Stacked, Holds, HoldsUp, Path, Within, Emptied, Wounded}
-use Rattle.heal.specs.Asks.{Mem, Spelt, Way, Finds, nearOf, moved}
-use Rattle.heal.specs.declared.Near.{Near}
+use Rattle.crit.specs.States.{State, rightSet, handKey, stored, lives}
+use Rattle.crit.specs.Paths.{Stacked, Holds, HoldsUp, Path}
+use Rattle.crit.specs.Asks.{Mem, Spelt, Way, Finds, nearOf, moved}
+use Rattle.crit.specs.declared.Near.{Near}
+use Rattle.heal.specs.Steps.{Ops, leafOps, innerOps, parentCut, healLevel, underflowed, emptyNode}
+use Rattle.heal.specs.Wounds.{Within, Emptied, Wounded}
 
 -- leaves, or inner nodes: the operations, the words of items, capacity and minimum
 pub record Kind : Type 0 where

@@ -1,5 +1,3 @@
-pub mod States
+pub mod Steps
 pub mod Wounds
-pub mod Asks
 pub mod Cycle
-pub mod Ends

@@ -1,56 +1,17 @@
--- DEFINITIONS. Rows in the middle of healing: stacked up to the first key of a row, which no word stores; held by a store; with a path through them
+-- DEFINITIONS. Rows with a wound: a node that is to go, or one that has lost an item
 use mathlib.Core.Path.{_≡_}
-use mathlib.Core.List.{List, [], _∷_, _++_, map}
+use mathlib.Core.List.{List, _∷_, _++_}
 use mathlib.Core.Bool.{_&&_}
-use Prim.Native.Nat.{ℕ, zero, suc, _+_, _≤_, _<_}
-use lib.ListN.{length, drop}
+use Prim.Native.Nat.{ℕ, suc, _+_, _≤_, _<_}
+use lib.ListN.{length}
 use lib.Dec.{leb}
-use Rattle.forest.specs.Sizes.{innerLeast, innerCap}
 use Rattle.forest.specs.Lists.{removeAt, sum, once, count, parent, offset}
 use Rattle.forest.specs.Pairs.{Item}
-use Rattle.forest.specs.Rows.{Node, Row, node, front, nums, sizes, joined, line, itemsAt, Fill}
+use Rattle.forest.specs.Rows.{Row, front, nums, sizes, line, itemsAt, Fill}
 use Rattle.forest.specs.Trees.{numbers}
-use Rattle.forest.specs.Pools.{innerWords}
-use Rattle.pool.specs.Stores.{Store, noWords}
-use Rattle.heal.specs.States.{State}
-
--- the items of the j-th node become f of them
-abbrev pub upd : ℕ → (List Item → List Item) → Row → Row
-upd j f [] = []
-upd zero f (n ∷ R) = node (n .num) (f (n .items)) ∷ R
-upd (suc j) f (n ∷ R) = n ∷ upd j f R
-
-abbrev pub numAt : Row → ℕ → ℕ
-numAt [] j = 0
-numAt (n ∷ R) zero = n .num
-numAt (n ∷ R) (suc j) = numAt R j
-
--- the same items, up to the key of the first
-abbrev pub val : Item → ℕ
-val x = x .1
-
-pub record Alike (xs ys : List Item) : Type 0 where
-  pub vals : map val xs ≡ map val ys
-  pub rest : drop 1 xs ≡ drop 1 ys
-
--- rows stacked up to first keys
-abbrev pub Stacked : Row → List Row → Type 0
-Stacked R [] = length R ≡ 1
-Stacked R (S ∷ Ss) = Alike (joined S) (line R) × Fill innerLeast innerCap (sizes S) × Stacked S Ss
-
--- the store has the words of every node of the row, and of the rows above
-abbrev pub Holds : (List Item → List ℕ) → Store → Row → Type 0
-Holds enc st [] = Unit {0}
-Holds enc st (n ∷ R) = (st (n .num) ≡ enc (n .items)) × Holds enc st R
-
-abbrev pub HoldsUp : Store → List Row → Type 0
-HoldsUp st [] = Unit {0}
-HoldsUp st (S ∷ Ss) = Holds innerWords st S × HoldsUp st Ss
-
--- the path to the j-th node of R: ns are the nodes, ps the places
-abbrev pub Path : Row → ℕ → List Row → (ℕ → ℕ) → (ℕ → ℕ) → Type 0
-Path R j [] ns ps = ns 0 ≡ numAt R j
-Path R j (S ∷ Ss) ns ps = (ns (suc (length Ss)) ≡ numAt R j) × (ps (length Ss) ≡ offset (sizes S) j) × Path S (parent (sizes S) j) Ss ns ps
+use Rattle.pool.specs.Stores.{noWords}
+use Rattle.crit.specs.States.{State}
+use Rattle.crit.specs.Paths.{upd, numAt, Alike, Stacked, Holds, HoldsUp, Path}
 
 -- each number is one of 1..N and stands once among xs and the free ones
 abbrev pub Within : ℕ → List ℕ → List ℕ → Type 0

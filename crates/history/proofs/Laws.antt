@@ -1,7 +1,7 @@
 -- PROOFS. Demand 3 on words; words stay sound; a promise settles its outcome
 use mathlib.Core.Path.{_≡_, refl, sym, ap, _∙_}
 use mathlib.Core.List.{List, [], _∷_}
-use mathlib.Core.Bool.{Bool, true, false, cond, _&&_, true≢false}
+use mathlib.Core.Bool.{true, false, _&&_, true≢false}
 use Prim.Native.Nat.{ℕ, _≤_}
 use native.Mathlib.Omega.{arith}
 use lib.ListN.{length}
@@ -10,10 +10,10 @@ use borrow.Author.Tests.{eqb-true, leb-true}
 use Rattle.forest.specs.Sizes.{leafLeast}
 use Rattle.forest.specs.declared.Answer.{Answer}
 use Rattle.forest.specs.declared.Cursor.{Cursor}
-use Rattle.forest.specs.Pools.{Pool, WellFormed, Sound, encode, fresh, Call, target, treeOf, refused, call, run, answers, own, ownAnswers, formatted, formatWords, shape, AllDone, Alone}
-use Rattle.forest.specs.Cursors.{Move, move}
+use Rattle.forest.specs.Pools.{Pool, WellFormed, Sound, encode, fresh, Call, target, treeOf, refused, call, run, answers, own, ownAnswers, formatted, formatWords, shape}
+use Rattle.forest.specs.Cursors.{Move}
 use Rattle.forest.specs.Promises.{Calls, Moves}
-use Rattle.forest.proofs.ListLaws.{Test, is, isnt, test}
+use Rattle.forest.proofs.ListLaws.{is, isnt, test}
 use Rattle.forest.proofs.PoolLaws.{call-formed}
 use Rattle.forest.proofs.CountLaws.{fresh-formed}
 use Rattle.forest.proofs.RunLaws.{answer-number, run-formed, demand-3}
@@ -21,7 +21,7 @@ use Rattle.forest.proofs.UniqueLaws.{same-pool}
 use Rattle.forest.proofs.PromiseLaws.{calls-sound, moves-sound, calls-by, one-outcome-sound, one-outcome-unsound}
 use Rattle.sound.specs.Checks.{checked}
 use Rattle.sound.proofs.CheckSteps.{exact}
-use Rattle.history.specs.Histories.{Ran, none, one, counts, ownOf, answersOf, SameTree, Independent, Went, stays, formats, calls, moves}
+use Rattle.history.specs.Histories.{Ran, none, one, counts, ownOf, answersOf, Independent, Went, stays, formats, calls, moves}
 
 module _ (m : ℕ) (lo : 1 ≤ m) (hi : m ≤ 4) where
   -- a history on the words of a pool is the calls on the pool

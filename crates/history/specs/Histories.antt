@@ -1,7 +1,7 @@
 -- DEFINITIONS. Histories: public calls one after another on the same words, each of which keeps its promise. The three demands are said of these
 use mathlib.Core.Path.{_≡_}
 use mathlib.Core.List.{List, [], _∷_}
-use mathlib.Core.Bool.{Bool, true, false, cond, _&&_}
+use mathlib.Core.Bool.{Bool, cond, _&&_}
 use Prim.Native.Nat.{ℕ}
 use lib.Dec.{eqb}
 use Rattle.forest.specs.declared.Answer.{Answer}

@@ -14,9 +14,10 @@ use Rattle.forest.specs.declared.Reply.the-variants as reply
 use Rattle.forest.specs.Pools.{Sound}
 use Rattle.forest.specs.Cursors.{to-next}
 use Rattle.forest.proofs.PromiseLaws.{sound-length}
-use Rattle.path.specs.Cores.{Ready, Tells}
+use Rattle.path.specs.Cores.{Ready}
 use Rattle.path.specs.declared.Look.{Look}
 use Rattle.path.specs.declared.Look.the-variants.{Pair, Nothing}
+use Rattle.stand.specs.Runs.{Tells}
 use Rattle.sound.specs.Exact.{Exact}
 use Rattle.map.specs.Gates.{Closed, Barred, Gates, Admits, Stood, Told, heldAt}
 use Rattle.map.specs.declared.Pass.{Pass}

@@ -22,16 +22,19 @@ use Rattle.forest.specs.declared.Refusal.{Refusal}
 use Rattle.forest.specs.declared.Refusal.the-variants.{Unsound, NoTree, NoPlace, NoRoom, NoFormat}
 use Rattle.forest.specs.declared.Reply.{Reply}
 use Rattle.forest.proofs.PoolLaws.{good-at, call-refused, call-done, call-free, refused-two}
-use Rattle.forest.proofs.PromiseLaws.{calls-unsound}
+use Rattle.forest.proofs.PromiseLaws.{calls-unsound, moves-unsound}
 use Rattle.forest.proofs.WordLaws.{first-word}
 use Rattle.forest.proofs.Six.{six-levels}
 use Rattle.forest.proofs.CursorLaws.{spot-path}
 use Rattle.forest.proofs.StandLaws.{path-in, length-path, stands-yes, yes-stands}
-use Rattle.forest.proofs.CursorCalls.{move-refused, move-done}
-use Rattle.path.specs.Cores.{Ready, Of, At, Standing, Tells, Goes, Steps, Sees, Seen, Back, lookOf}
+use Rattle.forest.proofs.CursorCalls.{move-refused, move-done, fits-next, fits-start}
+use Rattle.path.specs.Cores.{Ready, Of, At, Standing, Goes, Sees, lookOf}
 use Rattle.path.specs.declared.Look.{Look}
 use Rattle.path.proofs.Roots.{trees-are}
-use Rattle.path.proofs.Moving.{fits-start, fits-seek, fits-next, gone-tree, gone-at, moved-tree, moved-at}
+use Rattle.path.proofs.Made.{fits-seek, gone-tree, gone-at}
+use Rattle.stand.specs.Runs.{Tells}
+use Rattle.moves.specs.Moves.{Steps, Seen, Back}
+use Rattle.moves.proofs.Moving.{moved-tree, moved-at}
 use Rattle.grow.specs.Puts.{Puts}
 use Rattle.map.specs.Gates.{Closed, Barred, heldAt}
 use Rattle.map.proofs.Values.{held-tree}
@@ -44,16 +47,6 @@ pub of : (ws : List ℕ) (p : Pool) → WellFormed leafLeast p → encode p ≡ 
 of ws p w e = record { formed = w; same = e }
 
 -- Refusals
-
-moves-unsound : (v : Move) (c : Cursor) (ws : List ℕ) → (Sound leafLeast ws → ⊥) → Moves leafLeast v c ws ws (refusal 1) c
-moves-unsound v c ws n = record {
-  sound-words = λ p w b. absurd (n (record { pool = p; formed = w; same = b }));
-  sound-answer = λ p w b. absurd (n (record { pool = p; formed = w; same = b }));
-  sound-cursor = λ p w b. absurd (n (record { pool = p; formed = w; same = b }));
-  unsound-words = λ k. refl;
-  unsound-answer = λ k. refl;
-  unsound-cursor = λ k. refl;
-}
 
 moves-refused : (v : Move) (c : Cursor) (ws : List ℕ) (n : ℕ) → (n ≡ 0 → ⊥) → Sound leafLeast ws → ((p : Pool) → Of ws p → blocked v c p ≡ n) → Moves leafLeast v c ws ws (refusal n) c
 moves-refused v c ws n z s f =
@@ -99,14 +92,14 @@ number-some NoRoom = refl
 number-some NoFormat = refl
 
 pub barred-moves : (v : Move) (c : Cursor) (ws : List ℕ) (x : Refusal) → reads v ≡ true → Barred ws c x → Moves leafLeast v c ws ws (refusal (numberOf x)) c
-barred-moves v c ws Unsound r b = moves-unsound v c ws b
+barred-moves v c ws Unsound r b = moves-unsound leafLeast (omega arith) v c ws b
 barred-moves v c ws NoTree r b = moves-refused v c ws 2 (λ e. omega arith) (b .0) (barred-blocked v c ws NoTree r (b .0) b)
 barred-moves v c ws NoPlace r b = moves-refused v c ws 3 (λ e. omega arith) (b .0 .sound) (barred-blocked v c ws NoPlace r (b .0 .sound) b)
 barred-moves v c ws NoRoom r b = absurd b
 barred-moves v c ws NoFormat r b = absurd b
 
 pub closed-moves : (v : Move) (c : Cursor) (ws : List ℕ) (x : Refusal) → Closed ws (c .tree) x → Moves leafLeast v c ws ws (refusal (numberOf x)) c
-closed-moves v c ws Unsound b = moves-unsound v c ws b
+closed-moves v c ws Unsound b = moves-unsound leafLeast (omega arith) v c ws b
 closed-moves v c ws NoTree b = moves-refused v c ws 2 (λ e. omega arith) (b .0) (λ p o. blocked-tree v c p (rw (← trees-of ws p o) (b .1)))
 closed-moves v c ws NoPlace b = absurd b
 closed-moves v c ws NoRoom b = absurd b

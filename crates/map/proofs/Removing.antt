@@ -1,24 +1,23 @@
 -- PROOFS. Taking out keeps the promises of remove by key and remove at a cursor
 use mathlib.Core.Path.{_≡_, refl, sym, ap, _∙_}
 use mathlib.Core.List.{List, [], _∷_}
-use mathlib.Core.Bool.{Bool, true, false, true≢false}
+use mathlib.Core.Bool.{false, true≢false}
 use mathlib.Core.Option.{Option, none, some}
-use Prim.Native.Nat.{ℕ, _≤_, _<_}
+use Prim.Native.Nat.{ℕ, _<_}
 use native.Mathlib.Omega.{arith}
-use lib.ListN.{length, getD}
+use lib.ListN.{length}
 use Rattle.forest.specs.Sizes.{leafLeast, mostLevels}
 use lib.Dec.{eqb}
-use borrow.Author.Tests.{ne-eqb}
 use Rattle.forest.specs.Pairs.{Item, has, lookup}
 use Rattle.forest.specs.Trees.{pairs, getTree}
-use Rattle.forest.specs.Pools.{Pool, WellFormed, Sound, encode, treeOf, remove, call}
-use Rattle.forest.specs.Cursors.{Spot, off, on, Fits, pairAt, leaves, seek, pathOf, cursorAt, spotOf, pathIn, to-remove, blocked, move}
-use Rattle.forest.specs.Answers.{nothing, found-with, held, answerOf}
+use Rattle.forest.specs.Pools.{Pool, WellFormed, encode, treeOf, remove, call}
+use Rattle.forest.specs.Cursors.{Spot, off, on, pairAt, leaves, seek, cursorAt, spotOf, pathIn, to-remove, move}
+use Rattle.forest.specs.Answers.{nothing, found-with, held}
 use Rattle.forest.specs.Promises.{Calls, Moves}
 use Rattle.forest.specs.declared.Answer.{Answer}
 use Rattle.forest.specs.declared.Cursor.{Cursor}
 use Rattle.forest.specs.declared.Reply.the-variants as reply
-use Rattle.forest.proofs.ListLaws.{Test, is, isnt, test}
+use Rattle.forest.proofs.ListLaws.{is, isnt, test}
 use Rattle.forest.proofs.TreeLaws.{pairs-get}
 use Rattle.forest.proofs.PoolLaws.{good-at}
 use Rattle.forest.proofs.CallLaws.{remove-absent}
@@ -27,8 +26,8 @@ use Rattle.path.specs.Cores.{Ready, Of, At, Standing, Goes, Sees, lookOf}
 use Rattle.path.specs.declared.Look.{Look}
 use Rattle.path.specs.declared.Look.the-variants.{Pair, Nothing}
 use Rattle.path.proofs.Roots.{trees-are}
-use Rattle.path.proofs.Moving.{fits-seek, gone-tree, gone-standing, gone-ready}
-use Rattle.heal.specs.Ends.{OnPair, AskRemove, Removes}
+use Rattle.path.proofs.Made.{fits-seek, gone-tree, gone-standing, gone-ready}
+use Rattle.remove.specs.Ends.{OnPair, AskRemove, Removes}
 use Rattle.map.specs.Gates.{heldAt}
 use Rattle.map.proofs.Promising.{of, own-at, free-reads, tree-there, seek-held}
 

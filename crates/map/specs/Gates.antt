@@ -13,9 +13,10 @@ use Rattle.forest.specs.declared.Refusal.{Refusal}
 use Rattle.forest.specs.declared.Refusal.the-variants.{Unsound, NoTree, NoPlace, NoRoom, NoFormat}
 use Rattle.forest.specs.declared.Reply.{Reply}
 use Rattle.forest.specs.declared.Reply.the-variants as reply
-use Rattle.path.specs.Cores.{Ready, Standing, Tells}
+use Rattle.path.specs.Cores.{Ready, Standing}
 use Rattle.path.specs.declared.Look.{Look}
 use Rattle.path.specs.declared.Look.the-variants.{Pair, Nothing}
+use Rattle.stand.specs.Runs.{Tells}
 use Rattle.map.specs.declared.Pass.{Pass}
 use Rattle.map.specs.declared.Pass.the-variants.{Open, Shut}
 

@@ -39,7 +39,7 @@ fn admit(ws: &[u32], at: Cursor) -> Pass
     match gate(ws, at.tree) {
         Pass::Shut(why) => Pass::Shut(why),
         Pass::Open(t) => {
-            if path::stands(ws, t, at) {
+            if stand::stands(ws, t, at) {
                 Pass::Open(t)
             } else {
                 Pass::Shut(Refusal::NoPlace)
@@ -85,8 +85,8 @@ pub fn sound_get(ws: &[u32], tree: u32, key: u32) -> Reply
     match gate(ws, tree) {
         Pass::Shut(why) => Reply::Refused(why),
         Pass::Open(t) => {
-            let c = path::find(ws, t, tree, key);
-            held(path::look_at(ws, t, c), key)
+            let look = path::look_for(ws, t, tree, key);
+            held(look, key)
         }
     }
 }
@@ -118,7 +118,7 @@ pub fn sound_remove(ws: &mut [u32], tree: u32, key: u32) -> Reply
             if k != key {
                 return Reply::Nothing;
             }
-            heal::remove(ws, t, c);
+            remove::remove(ws, t, c);
             Reply::Value(value)
         }
     }
@@ -156,7 +156,7 @@ pub fn sound_first(ws: &[u32], at: Cursor) -> Moved
         },
         Pass::Open(t) => {
             let c = path::first(ws, t, at.tree);
-            path::seen(ws, t, c)
+            moves::seen(ws, t, c)
         }
     }
 }
@@ -167,7 +167,7 @@ pub fn sound_settle(ws: &[u32], at: Cursor) -> Moved
     ensures { λ r. ⌜ Moves leafLeast to-settled at (now (ws .entry)) (now (ws .entry)) (answerOf (r .reply)) (r .cursor) ⌝ }
 {
     let t = pool::tree_count(ws);
-    let c = path::normalize(ws, t, at);
+    let c = moves::normalize(ws, t, at);
     Moved {
         reply: Reply::Nothing,
         cursor: c,
@@ -180,8 +180,8 @@ pub fn sound_next(ws: &[u32], at: Cursor) -> Moved
     ensures { λ r. ⌜ Moves leafLeast to-next at (now (ws .entry)) (now (ws .entry)) (answerOf (r .reply)) (r .cursor) ⌝ }
 {
     let t = pool::tree_count(ws);
-    let c = path::next(ws, t, at);
-    path::seen(ws, t, c)
+    let c = moves::next(ws, t, at);
+    moves::seen(ws, t, c)
 }
 
 // Go to the pair before.
@@ -190,7 +190,7 @@ pub fn sound_prev(ws: &[u32], at: Cursor) -> Moved
     ensures { λ r. ⌜ Moves leafLeast to-prev at (now (ws .entry)) (now (ws .entry)) (answerOf (r .reply)) (r .cursor) ⌝ }
 {
     let t = pool::tree_count(ws);
-    path::prev(ws, t, at)
+    moves::prev(ws, t, at)
 }
 
 // Takes out the pair that the cursor is on, and goes to the next.
@@ -206,7 +206,7 @@ pub fn sound_remove_at(ws: &mut [u32], at: Cursor) -> Moved
             cursor: at,
         };
     };
-    let c = heal::remove(ws, t, at);
+    let c = remove::remove(ws, t, at);
     Moved {
         reply: Reply::Value(value),
         cursor: c,

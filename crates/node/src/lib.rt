@@ -1,12 +1,11 @@
 // One node of a tree, as its sixteen words by value.
 ghost use mathlib.Core.Path.{_≡_};
 ghost use mathlib.Core.List.{List, [], _∷_, _++_};
-ghost use Prim.Native.Nat.{ℕ, suc, _+_, _-_, _≤_, _<_};
-ghost use lib.ListN.{length, take, drop, getD};
-ghost use lib.Seq.{paste};
+ghost use Prim.Native.Nat.{suc, _+_, _-_, _≤_, _<_};
+ghost use lib.ListN.{getD};
 ghost use lib.Dec.{leb};
 ghost use mathlib.Core.Bool.{cond};
-ghost use Rattle.forest.specs.Lists.{insertAt, removeAt, pad};
+ghost use Rattle.forest.specs.Lists.{insertAt};
 ghost use Rattle.forest.specs.Pairs.{Item};
 ghost use Rattle.forest.specs.Rows.{front, keeps};
 ghost use Rattle.forest.specs.Pools.{leafWords, innerWords};

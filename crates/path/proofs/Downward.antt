@@ -11,7 +11,7 @@ use Rattle.forest.specs.Pairs.{place}
 use Rattle.forest.specs.Rows.{Row, size, front, fronts, sizes, nums, itemsAt, Tower}
 use Rattle.forest.specs.Trees.{leafOf, leafItems}
 use Rattle.forest.specs.Pools.{leafWords, innerWords, rootAbove}
-use Rattle.forest.specs.Cursors.{off, on, first, seek, prev, Path, pathUp, pathOf}
+use Rattle.forest.specs.Cursors.{off, first, seek, prev, Path, pathUp, pathOf}
 use Rattle.forest.proofs.ListLaws.{parent-start, upto-length}
 use Rattle.forest.proofs.RowLaws.{length-items}
 use Rattle.forest.proofs.TowerLaws.{tower-some}

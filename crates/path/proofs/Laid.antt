@@ -8,7 +8,7 @@ use lib.ListN.{length, take, drop, getD, length-map}
 use lib.Dec.{leb}
 use Rattle.forest.specs.Sizes.{leafLeast, leafCap}
 use Rattle.forest.specs.Lists.{sum, parent, offset, once, count}
-use Rattle.forest.specs.Pairs.{Item}
+use Rattle.forest.specs.Pairs.{Item, Rising}
 use Rattle.forest.specs.Rows.{Row, Tree, size, sizes, nums, joined, line, itemsAt, Fill, Tower, Good}
 use Rattle.forest.specs.Trees.{numbers}
 use Rattle.forest.specs.Pools.{Pool, WellFormed, used, treeOf, encode, leafWords, innerWords, nodeWords, rootAbove}
@@ -18,10 +18,11 @@ use Rattle.forest.proofs.TreeLaws.{NoneEmpty, none-empty}
 use Rattle.forest.proofs.PoolLaws.{good-at}
 use Rattle.forest.proofs.CountLaws.{encode-length}
 use Rattle.forest.proofs.WordLaws.{count-append, count-at, count-row, count-tree, rowAt, leaf-words, inner-words, node-window}
-use Rattle.forest.proofs.Descent.{keys}
+use Rattle.forest.proofs.Descent.{keys, line-rising}
 use Rattle.forest.proofs.Six.{six-levels}
 use Rattle.path.specs.Ways.{base, blockAt, block, Lies, Deep}
-use Rattle.path.proofs.NodeWords.{links, link-word, link-at, links-line, group-end}
+use Rattle.path.proofs.NodeWords.{links, link-word, link-at, links-line, group-end, inner-keys, leaf-keys}
+use Rattle.path.proofs.Searching.{keys-rise, stored-rise, items-rise}
 
 -- the nodes of a row lie in the words, each with the words of its items
 pub record RowIn (words : List Item → List ℕ) (ws : List ℕ) (t : ℕ) (R : Row) : Type 0 where
@@ -151,6 +152,17 @@ module _ (R S : Row) (s : Stood R S) where
 pub inside : (R S : Row) → Stood R S → (q i : ℕ) → q < length S → i < getD (sizes S) q 0 → sum (take q (sizes S)) + i < length R
 inside R S s q i h k = omega (arith, children R S s, group-end (sizes S) q)
 
+-- keys rise in a row, and no node is empty
+pub record Rises (R : Row) : Type 0 where
+  pub some : NoneEmpty R
+  pub keys : Rising (joined R)
+
+pub leaves-rise : (L : Row) (Rs : List Row) → Good leafLeast leafCap (L ∷ Rs) → Rises L
+leaves-rise L Rs g = record { some = none-empty leafLeast leafCap L (omega arith) (g .1); keys = g .0 }
+
+pub rises-up : (R S : Row) → Stood R S → Rises R → Rises S
+rises-up R S s x = record { some = none-empty 4 8 S (omega arith) (s .filled); keys = rw (s .line-is) (line-rising R (x .some) (x .keys)) }
+
 -- Every way down stays in the words
 
 module _ (ws : List ℕ) (t : ℕ) where
@@ -163,10 +175,10 @@ module _ (ws : List ℕ) (t : ℕ) where
   pub inner-first : (S : Row) → RowIn innerWords ws t S → (q : ℕ) → q < length S → getD (block ws t (getD (nums S) q 0)) 0 0 ≡ 16 + (length (itemsAt S q) - 1)
   inner-first S r q h = rw (r .are q h)
 
-  pub leaf-deep : (L : Row) → RowIn leafWords ws t L → Fill leafLeast leafCap (sizes L) → AllDeep L
+  pub leaf-deep : (L : Row) → RowIn leafWords ws t L → Fill leafLeast leafCap (sizes L) → Rises L → AllDeep L
   unfolding Deep
-  leaf-deep L r g zero j h = tt
-  leaf-deep L r g (suc f) j h =
+  leaf-deep L r g x zero j h = tt
+  leaf-deep L r g x (suc f) j h =
       let w = leaf-first L r j h in
       let b = size-bounds leafLeast leafCap L j (omega arith) g h in
       let a = r .range j h in (
@@ -174,16 +186,18 @@ module _ (ws : List ℕ) (t : ℕ) where
           some = a .0;
           few = a .1;
           long = a .2;
-          leaf = λ x. (omega arith, omega arith);
-          inner = λ x. absurd (omega arith);
+          leaf = λ y. (omega arith, omega arith);
+          inner = λ y. absurd (omega arith);
+          leaf-rises = λ y. rw (r .are j h, leaf-keys (itemsAt L j) (b .1)) (keys-rise (itemsAt L j) (items-rise L j (x .keys)));
+          inner-rises = λ y. absurd (omega arith);
         },
-        λ i x y. absurd (omega arith),
+        λ i y z. absurd (omega arith),
       )
 
-  pub inner-deep : (R S : Row) → Stood R S → RowIn innerWords ws t S → AllDeep R → AllDeep S
+  pub inner-deep : (R S : Row) → Stood R S → RowIn innerWords ws t S → Rises S → AllDeep R → AllDeep S
   unfolding Deep
-  inner-deep R S s r d zero q h = tt
-  inner-deep R S s r d (suc f) q h =
+  inner-deep R S s r v d zero q h = tt
+  inner-deep R S s r v d (suc f) q h =
       let w = inner-first S r q h in
       let b = size-bounds 4 8 S q (omega arith) (s .filled) h in
       let a = r .range q h in (
@@ -193,6 +207,8 @@ module _ (ws : List ℕ) (t : ℕ) where
           long = a .2;
           leaf = λ x. absurd (omega arith);
           inner = λ x. (omega arith, omega arith);
+          leaf-rises = λ x. absurd (omega arith);
+          inner-rises = λ x. rw (r .are q h, inner-keys (itemsAt S q) (b .0) (b .1)) (stored-rise (itemsAt S q) (items-rise S q (v .keys)));
         },
         λ i x y.
             let l = length-items S q in
@@ -214,9 +230,11 @@ module _ (ws : List ℕ) (t : ℕ) where
   deep-child zero n i h d a b = absurd (omega arith)
   deep-child (suc f) n i h d a b = let z : suc f - 1 ≡ f = omega arith in rw z (d .1 i a b)
 
-  pub root-deep : (R : Row) (Rs : List Row) → Tower R Rs → RowsIn ws t Rs → AllDeep R → (f : ℕ) → Deep f ws t (rootAbove R Rs)
-  root-deep R [] w r d f = d f 0 (omega arith)
-  root-deep R (S ∷ Ss) w r d f = root-deep S Ss (w .3) (r .1) (inner-deep R S (stood R S Ss w) (r .0) d) f
+  pub root-deep : (R : Row) (Rs : List Row) → Tower R Rs → RowsIn ws t Rs → Rises R → AllDeep R → (f : ℕ) → Deep f ws t (rootAbove R Rs)
+  root-deep R [] w r x d f = d f 0 (omega arith)
+  root-deep R (S ∷ Ss) w r x d f =
+      let v = rises-up R S (stood R S Ss w) x in
+      root-deep S Ss (w .3) (r .1) v (inner-deep R S (stood R S Ss w) (r .0) v d) f
 
   pub tree-deep : (L : Row) (Rs : List Row) → Laid ws t L Rs → (f : ℕ) → Deep f ws t (rootAbove L Rs)
-  tree-deep L Rs l f = root-deep L Rs (l .good .2) (l .inner) (leaf-deep L (l .leaf) (l .good .1)) f
+  tree-deep L Rs l f = root-deep L Rs (l .good .2) (l .inner) (leaves-rise L Rs (l .good)) (leaf-deep L (l .leaf) (l .good .1) (leaves-rise L Rs (l .good))) f

@@ -1,13 +1,11 @@
 pub mod NodeWords
+pub mod Searching
 pub mod Laid
 pub mod Downward
 pub mod CursorWords
 pub mod Steps
 pub mod Roots
 pub mod Seats
-pub mod Running
-pub mod Sideways
+pub mod Made
 pub mod Branches
-pub mod Neighbours
-pub mod Moving
-pub mod Looking
+pub mod Foots

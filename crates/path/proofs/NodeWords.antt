@@ -6,16 +6,15 @@ use Prim.Native.Nat.{ℕ, zero, suc, _+_, _-_, _≤_, _<_}
 use native.Mathlib.Omega.{arith}
 use lib.ListN.{length, take, drop, getD, getElem?, length-map, List·getD-append}
 use lib.Seq.{take-nil, getD-append-add, getD-take, getD-drop, take-append-le, take-take, drop-drop}
-use lib.Dec.{leb}
 use borrow.Author.Tests.{lt-ltb, le-ltb}
 use Rattle.forest.specs.Lists.{sum, parent, offset, upto, pad}
+use Rattle.forest.specs.Slices.{keyPlace}
 use Rattle.forest.specs.Pairs.{Item, place}
 use Rattle.forest.specs.Rows.{Row, size, sizes, nums, joined, line, itemsAt}
 use Rattle.forest.specs.Pools.{leafWords, innerWords}
-use Rattle.forest.proofs.ListLaws.{is, isnt, test, tests}
 use Rattle.forest.proofs.CountLaws.{length-pad}
 use Rattle.forest.proofs.Descent.{keys, stored}
-use Rattle.path.specs.Ways.{blockAt, below, turnOf, landOf}
+use Rattle.path.specs.Ways.{blockAt, keysOf, turnOf, landOf}
 use Rattle.path.specs.declared.Way.the-variants.{Key, First, Last}
 
 -- the values or children of items
@@ -68,24 +67,26 @@ module _ (w : ℕ) (ks vs : List ℕ) where
   pub key-words : length ks ≤ 7 → take (length ks) (drop 1 (w ∷ (pad 7 ks ++ pad 8 vs))) ≡ ks
   key-words h = take-append-le (length ks) (pad 7 ks) (pad 8 vs) (rw (length-pad 7 ks) h) ∙ take-pad 7 ks h
 
--- where a way goes in a node
-pub below-place : (k : ℕ) (xs : List Item) → below k (keys xs) ≡ place k xs
-below-place k [] = refl
-below-place k (x ∷ xs) = rw (below-place k xs)
+-- the keys that the words of a node store
+pub inner-keys : (xs : List Item) → 1 ≤ length xs → length xs ≤ 8 → keysOf 16 (innerWords xs) ≡ stored xs
+inner-keys [] a h = absurd (omega arith)
+inner-keys (x ∷ xs) a h =
+    let z : 16 + (length (x ∷ xs) - 1) - 16 ≡ length (keys xs) = omega (arith, length-map xs (λ (y : Item). y .0)) in
+    rw z (key-words (16 + (length (x ∷ xs) - 1)) (keys xs) (links (x ∷ xs)) (omega (arith, length-map xs (λ (y : Item). y .0))))
 
-pub below-upto : (k : ℕ) (xs : List ℕ) → below (suc k) xs ≡ upto k xs
-below-upto k [] = refl
-below-upto k (x ∷ xs) = elim (test (leb x k)) [
-  | is e ↦ simp (e, lt-ltb x (suc k) (omega tests), below-upto k xs)
-  | isnt e ↦ simp (e, le-ltb x (suc k) (omega tests))
-]
+pub leaf-keys : (xs : List Item) → length xs ≤ 7 → keysOf 32 (leafWords xs) ≡ keys xs
+leaf-keys xs h =
+    let z : 32 + length xs - 32 ≡ length (keys xs) = omega (arith, length-map xs (λ (y : Item). y .0)) in
+    rw z (key-words (32 + length xs) (keys xs) (links xs) (omega (arith, length-map xs (λ (y : Item). y .0))))
+
+-- where a way goes in a node
+pub key-place : (k : ℕ) (xs : List Item) → keyPlace k (keys xs) ≡ place k xs
+key-place k [] = refl
+key-place k (x ∷ xs) = rw (key-place k xs)
 
 pub turn-key : (k : ℕ) (xs : List Item) → 1 ≤ length xs → length xs ≤ 8 → turnOf (Key k) (innerWords xs) ≡ upto k (stored xs)
 unfolding turnOf
-turn-key k [] a h = absurd (omega arith)
-turn-key k (x ∷ xs) a h =
-    let z : 16 + (length (x ∷ xs) - 1) - 16 ≡ length (keys xs) = omega (arith, length-map xs (λ (y : Item). y .0)) in
-    rw z (ap (upto k) (key-words (16 + (length (x ∷ xs) - 1)) (keys xs) (links (x ∷ xs)) (omega (arith, length-map xs (λ (y : Item). y .0)))))
+turn-key k xs a h = ap (upto k) (inner-keys xs a h)
 
 pub turn-last : (xs : List Item) → turnOf Last (innerWords xs) ≡ length xs - 1
 unfolding turnOf
@@ -97,9 +98,7 @@ turn-first w = refl
 
 pub land-key : (k : ℕ) (xs : List Item) → length xs ≤ 7 → landOf (Key k) (leafWords xs) ≡ place k xs
 unfolding landOf
-land-key k xs h =
-    let z : 32 + length xs - 32 ≡ length (keys xs) = omega (arith, length-map xs (λ (y : Item). y .0)) in
-    rw z (ap (below k) (key-words (32 + length xs) (keys xs) (links xs) (omega (arith, length-map xs (λ (y : Item). y .0)))) ∙ below-place k xs)
+land-key k xs h = ap (keyPlace k) (leaf-keys xs h) ∙ key-place k xs
 
 pub land-last : (xs : List Item) → landOf Last (leafWords xs) ≡ length xs - 1
 unfolding landOf
@@ -120,11 +119,6 @@ pair-words xs e h k =
     nth (y ∷ ys) zero q = refl
     nth (y ∷ ys) (suc i) q = nth ys i (omega arith)
 
-pub no-pair : (xs : List Item) (e : ℕ) → length xs ≤ e → getElem? xs e ≡ none
-no-pair [] e h = refl
-no-pair (x ∷ xs) zero h = absurd (omega arith)
-no-pair (x ∷ xs) (suc e) h = no-pair xs e (omega arith)
-
 -- groups end to end: position o of group q
 pub record Grouped (gs : List ℕ) (q o i : ℕ) : Type 0 where
   pub group : parent gs i ≡ q
@@ -143,12 +137,6 @@ grouped (g ∷ gs) (suc q) o h k =
 
 pub grouped-at : (gs : List ℕ) (q o i : ℕ) → q < length gs → o < getD gs q 0 → i ≡ sum (take q gs) + o → Grouped gs q o i
 grouped-at gs q o i h k e = rw e (grouped gs q o h k)
-
-pub sum-take : (q : ℕ) (gs : List ℕ) → sum (take (suc q) gs) ≡ sum (take q gs) + getD gs q 0
-sum-take zero [] = refl
-sum-take (suc q) [] = refl
-sum-take zero (g ∷ gs) = omega arith
-sum-take (suc q) (g ∷ gs) = omega (arith, sum-take q gs)
 
 pub group-end : (gs : List ℕ) (q : ℕ) → sum (take q gs) + getD gs q 0 ≤ sum gs
 group-end [] zero = omega arith

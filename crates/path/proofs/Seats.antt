@@ -14,14 +14,17 @@ use Rattle.forest.specs.Cursors.{Spot, off, on, leaves, sizeAt, Fits, pairAt, P
 use Rattle.forest.specs.declared.Cursor.{Cursor}
 use Rattle.forest.proofs.ListLaws.{tri, less, same, more}
 use Rattle.forest.proofs.RowLaws.{length-items}
-use Rattle.path.specs.Ways.{base, block, blockAt, Deep}
+use Rattle.forest.specs.Slices.{KeysRise}
+use Rattle.path.specs.Ways.{base, block, blockAt, keysOf, Deep}
 use Rattle.path.specs.Cores.{Ready, Of, At, Standing, lookOf}
 use Rattle.path.specs.declared.Look.the-variants.{Pair, Nothing}
-use Rattle.path.proofs.NodeWords.{pair-words, no-pair}
-use Rattle.path.proofs.Laid.{Laid, RowIn, RowsIn, AllDeep, leaf-deep, inner-deep, size-bounds, Stood, stood, parent-in, offset-in, leaf-first, inner-first}
+use Rattle.path.proofs.NodeWords.{pair-words}
+use Rattle.path.proofs.Laid.{Laid, RowIn, RowsIn, Rises, leaves-rise, rises-up, AllDeep, leaf-deep, inner-deep, size-bounds, Stood, stood, parent-in, offset-in, leaf-first, inner-first}
 use Rattle.path.proofs.CursorWords.{node-at, place-at}
-use Rattle.path.proofs.Steps.{first-word, key-word-at, link-word-at}
+use Rattle.path.proofs.Steps.{first-word, key-word-at, link-word-at, lies-of}
 use Rattle.path.proofs.Roots.{lies-there, the-pool}
+use Rattle.forest.proofs.StandLaws.{length-pathUp}
+use Rattle.forest.proofs.CursorLaws.{nth-none}
 
 -- Paths upward
 
@@ -35,12 +38,8 @@ up-append i (S ∷ Ss) below =
     assoc [] x = refl
     assoc (u ∷ us) x = ap (u ∷_) (assoc us x)
 
-pub up-length : (i : ℕ) (Rs : List Row) (below : Path) → length (pathUp i Rs below) ≡ length Rs + length below
-up-length i [] below = omega arith
-up-length i (S ∷ Ss) below = omega (arith, up-length (parent (sizes S) i) Ss ((getD (nums S) (parent (sizes S) i) 0, offset (sizes S) i) ∷ below))
-
 pub up-none : (i : ℕ) (Rs : List Row) → length (pathUp i Rs []) ≡ length Rs
-up-none i Rs = omega (arith, up-length i Rs [])
+up-none i Rs = omega (arith, length-pathUp i Rs [])
 
 -- the level of the row below
 pub up-at : (i : ℕ) (Rs : List Row) (q : ℕ × ℕ) (below : Path) → getD (pathUp i Rs (q ∷ below)) (length Rs) (0, 0) ≡ q
@@ -58,26 +57,27 @@ pub record Inner (ws : List ℕ) (t : ℕ) (q : ℕ × ℕ) : Type 0 where
   pub place : q .1 + 16 ≤ getD (block ws t (q .0)) 0 0
 
 module _ (ws : List ℕ) (t : ℕ) where
-  inner-level : (R S : Row) → Stood R S → RowIn innerWords ws t S → AllDeep ws t R → (i : ℕ) → i < length R → Inner ws t (getD (nums S) (parent (sizes S) i) 0, offset (sizes S) i)
-  inner-level R S s r d i h =
+  inner-level : (R S : Row) → Stood R S → RowIn innerWords ws t S → Rises S → AllDeep ws t R → (i : ℕ) → i < length R → Inner ws t (getD (nums S) (parent (sizes S) i) 0, offset (sizes S) i)
+  inner-level R S s r v d i h =
       let q = parent (sizes S) i in
       let k = parent-in R S s i h in
       let w = inner-first ws t S r (parent (sizes S) i) k in
       let b = size-bounds 4 8 S (parent (sizes S) i) (omega arith) (s .filled) k in
       let o = offset-in R S s i h in
       let l = length-items S (parent (sizes S) i) in
-      record { deep = λ f. inner-deep ws t R S s r d f (parent (sizes S) i) k; inside = omega arith; place = omega arith }
+      record { deep = λ f. inner-deep ws t R S s r v d f (parent (sizes S) i) k; inside = omega arith; place = omega arith }
 
-  pub up-inner : (R : Row) (Rs : List Row) (i : ℕ) (below : Path) → Tower R Rs → RowsIn ws t Rs → AllDeep ws t R → i < length R → (l : ℕ) → l < length Rs →
+  pub up-inner : (R : Row) (Rs : List Row) (i : ℕ) (below : Path) → Tower R Rs → RowsIn ws t Rs → Rises R → AllDeep ws t R → i < length R → (l : ℕ) → l < length Rs →
       Inner ws t (getD (pathUp i Rs below) l (0, 0))
-  up-inner R [] i below w r d h l k = absurd (omega arith)
-  up-inner R (S ∷ Ss) i below w r d h l k =
+  up-inner R [] i below w r v d h l k = absurd (omega arith)
+  up-inner R (S ∷ Ss) i below w r v d h l k =
       let s = stood R S Ss w in
+      let u = rises-up R S s v in
       let x : ℕ × ℕ = (getD (nums S) (parent (sizes S) i) 0, offset (sizes S) i) in
       elim (tri l (length Ss)) [
-        | less m ↦ up-inner S Ss (parent (sizes S) i) ((getD (nums S) (parent (sizes S) i) 0, offset (sizes S) i) ∷ below) (w .3) (r .1) (inner-deep ws t R S s (r .0) d) (parent-in R S s i h) l m
+        | less m ↦ up-inner S Ss (parent (sizes S) i) ((getD (nums S) (parent (sizes S) i) 0, offset (sizes S) i) ∷ below) (w .3) (r .1) u (inner-deep ws t R S s (r .0) u d) (parent-in R S s i h) l m
         | same e ↦
-            rw (e, up-at (parent (sizes S) i) Ss (getD (nums S) (parent (sizes S) i) 0, offset (sizes S) i) below) (inner-level R S s (r .0) d i h)
+            rw (e, up-at (parent (sizes S) i) Ss (getD (nums S) (parent (sizes S) i) 0, offset (sizes S) i) below) (inner-level R S s (r .0) u d i h)
         | more m ↦ absurd (omega arith)
       ]
 
@@ -125,7 +125,7 @@ module _ (ws : List ℕ) (t : ℕ) (c : Cursor) (p : Pool) (s : Spot) (u : Seat 
   pathS = pathUp (u .j) (u .Rs) ((getD (nums (u .L)) (u .j) 0, u .e) ∷ [])
 
   pub seat-size : c .size ≡ length (u .Rs) + 1
-  seat-size = ap (λ (d : Cursor). d .size) (u .same) ∙ up-length (u .j) (u .Rs) ((getD (nums (u .L)) (u .j) 0, u .e) ∷ [])
+  seat-size = ap (λ (d : Cursor). d .size) (u .same) ∙ length-pathUp (u .j) (u .Rs) ((getD (nums (u .L)) (u .j) 0, u .e) ∷ [])
 
   pub seat-node : (l : ℕ) → l < 16 → getD (c .nodes) l 0 ≡ (getD pathS l (0, 0)) .0
   seat-node l h = ap (λ (d : Cursor). getD (d .nodes) l 0) (u .same) ∙ node-at (c .tree) pathS l h
@@ -147,7 +147,7 @@ module _ (ws : List ℕ) (t : ℕ) (c : Cursor) (p : Pool) (s : Spot) (u : Seat 
   -- an inner level
   pub inner-seat : (l : ℕ) → l < c .size - 1 → Inner ws t (getD pathS l (0, 0))
   inner-seat l h =
-      up-inner ws t (u .L) (u .Rs) (u .j) ((getD (nums (u .L)) (u .j) 0, u .e) ∷ []) (u .laid .good .2) (u .laid .inner) (leaf-deep ws t (u .L) (u .laid .leaf) (u .laid .good .1)) (u .inside)
+      up-inner ws t (u .L) (u .Rs) (u .j) ((getD (nums (u .L)) (u .j) 0, u .e) ∷ []) (u .laid .good .2) (u .laid .inner) (leaves-rise (u .L) (u .Rs) (u .laid .good)) (leaf-deep ws t (u .L) (u .laid .leaf) (u .laid .good .1) (leaves-rise (u .L) (u .Rs) (u .laid .good))) (u .inside)
       l (omega (arith, seat-size))
 
   pub leaf-block : block ws t (getD (nums (u .L)) (u .j) 0) ≡ leafWords (itemsAt (u .L) (u .j))
@@ -180,7 +180,7 @@ module _ (ws : List ℕ) (t : ℕ) (c : Cursor) (p : Pool) (s : Spot) (u : Seat 
       Nothing ≡ lookOf (pairAt (leaves (treeOf p (c .tree))) s)
   look-none n e b x y z k =
       let w : getD ws b 0 ≡ 32 + length (itemsAt (u .L) (u .j)) = rw (z, x) leaf-entries in
-      rw (row-is, u .spot-is, ← y, no-pair (itemsAt (u .L) (u .j)) e (omega arith))
+      rw (row-is, u .spot-is, ← y, nth-none (itemsAt (u .L) (u .j)) e (omega arith))
 
 -- The leaf level, as code that reads it needs it
 pub record Leafy (ws : List ℕ) (t : ℕ) (c : Cursor) : Type 0 where
@@ -192,6 +192,7 @@ pub record Leafy (ws : List ℕ) (t : ℕ) (c : Cursor) : Type 0 where
   pub most : getD ws (base t (getD (c .nodes) (c .size - 1) 0)) 0 ≤ 39
   pub place : getD (c .places) (c .size - 1) 0 + 32 ≤ getD ws (base t (getD (c .nodes) (c .size - 1) 0)) 0
   pub trees : t ≤ 32
+  pub rise : KeysRise (keysOf 32 (block ws t (getD (c .nodes) (c .size - 1) 0)))
 
 module _ (ws : List ℕ) (t : ℕ) (c : Cursor) (y : Ready ws t (c .tree)) (d : Standing ws c) (h : 1 ≤ c .size) where
   abbrev pub own-pool : Pool
@@ -213,6 +214,8 @@ module _ (ws : List ℕ) (t : ℕ) (c : Cursor) (y : Ready ws t (c .tree)) (d : 
       let r = own-seat .laid .leaf .range (own-seat .j) (own-seat .inside) in
       let w : getD ws (base t (getD (c .nodes) (c .size - 1) 0)) 0 ≡ 32 + length (itemsAt (own-seat .L) (own-seat .j)) = rw n (leaf-entries ws t c own-pool own-spot own-seat) in
       let b = leaf-bound ws t c own-pool own-spot own-seat in
+      let f = leaf-first ws t (own-seat .L) (own-seat .laid .leaf) (own-seat .j) (own-seat .inside) in
+      let d = leaf-deep ws t (own-seat .L) (own-seat .laid .leaf) (own-seat .laid .good .1) (leaves-rise (own-seat .L) (own-seat .Rs) (own-seat .laid .good)) 1 (own-seat .j) (own-seat .inside) in
       record {
         deep = omega (arith, seat-size ws t c own-pool own-spot own-seat, own-seat .laid .few);
         some = rw n (r .0);
@@ -222,6 +225,7 @@ module _ (ws : List ℕ) (t : ℕ) (c : Cursor) (y : Ready ws t (c .tree)) (d : 
         most = omega arith;
         place = omega (arith, leaf-place ws t c own-pool own-spot own-seat, few-places ws t c own-pool own-spot own-seat);
         trees = own-seat .laid .trees;
+        rise = rw n ((lies-of 1 ws t (getD (nums (own-seat .L)) (own-seat .j) 0) (λ e. omega arith) d) .leaf-rises (omega arith));
       }
 
 -- size 0 is off the end, and there is no pair
@@ -234,7 +238,7 @@ off-is c p (on j e) h a = go (treeOf p (c .tree)) refl
     go (L ∷ Rs) q =
         let g : cursorAt (c .tree) (pathUp j Rs ((getD (nums L) j 0, e) ∷ [])) ≡ c = rw q at (a .same) in
         let z : length (pathUp j Rs ((getD (nums L) j 0, e) ∷ [])) ≡ c .size = ap (λ (d : Cursor). d .size) g in
-        absurd (omega (arith, up-length j Rs ((getD (nums L) j 0, e) ∷ [])))
+        absurd (omega (arith, length-pathUp j Rs ((getD (nums L) j 0, e) ∷ [])))
 
 pub off-spot : (c : Cursor) (p : Pool) (s : Spot) → c .size ≡ 0 → At p c s → pairAt (leaves (treeOf p (c .tree))) s ≡ none
 off-spot c p s h a = ap (pairAt (leaves (treeOf p (c .tree)))) (off-is c p s h a)

@@ -3,30 +3,20 @@ use mathlib.Core.Path.{_≡_, refl, sym, ap, _∙_}
 use mathlib.Core.List.{List}
 use Prim.Native.Nat.{ℕ, zero, suc, _+_, _-_, _≤_, _<_}
 use native.Mathlib.Omega.{arith}
-use lib.ListN.{length, take, drop, getD}
-use lib.Seq.{drop-cons}
-use lib.ListN.{drop-of-length-le}
-use borrow.Author.Tests.{lt-ltb, le-ltb, le-leb, lt-leb}
-use Rattle.forest.specs.Lists.{upto}
+use lib.ListN.{length, take, drop, getD, length-take}
+use borrow.Author.Tests.{le-leb, lt-leb}
+use Rattle.forest.specs.Slices.{KeysRise, searched}
 use Rattle.forest.specs.declared.Cursor.{Cursor}
-use Rattle.path.specs.Ways.{base, blockAt, block, below, turnOf, landOf, descend, Lies, Deep, Extends}
+use Rattle.forest.specs.declared.Found.{Found}
+use Rattle.forest.specs.declared.Found.the-variants.{Here, Absent}
+use Rattle.path.specs.Ways.{base, blockAt, block, keysOf, turnOf, landOf, descend, Lies, Deep, Extends}
 use Rattle.path.specs.Levels.{pushed}
 use Rattle.path.specs.declared.Way.{Way}
 use Rattle.path.specs.declared.Way.the-variants.{Key, First, Last}
-use Rattle.path.proofs.NodeWords.{at-block, block-keys, below-upto}
+use Rattle.path.proofs.NodeWords.{at-block, block-keys}
+use Rattle.path.proofs.Searching.{Stops, stops-here, stops-absent}
 use Rattle.path.proofs.Laid.{deep-lies, deep-child}
 use Rattle.path.proofs.CursorWords.{extends-none, extends-one, extends-more}
-
--- a search
-module _ (k : ℕ) (xs : List ℕ) (i : ℕ) where
-  pub count-on : i < length xs → getD xs i 0 < k → below k (drop i xs) ≡ suc (below k (drop (suc i) xs))
-  count-on h p = rw (drop-cons xs i 0 h, lt-ltb (getD xs i 0) k p)
-
-  pub count-off : i < length xs → k ≤ getD xs i 0 → below k (drop i xs) ≡ 0
-  count-off h p = rw (drop-cons xs i 0 h, le-ltb (getD xs i 0) k p)
-
-  pub count-end : length xs ≤ i → below k (drop i xs) ≡ 0
-  count-end h = rw (drop-of-length-le xs h)
 
 -- the first word of a block
 pub first-word : (ws : List ℕ) (b : ℕ) → getD (blockAt ws b) 0 0 ≡ getD ws b 0
@@ -40,12 +30,37 @@ key-word-at ws b i h = let z : b + (1 + i) ≡ b + 1 + i = omega arith in at-blo
 
 -- turn and land, as the code has them
 module _ (ws : List ℕ) (b : ℕ) where
-  pub turns-key : (k r : ℕ) → getD ws b 0 ≤ 23 → r ≡ below (k + 1) (take (b + 1 + (getD ws b 0 - 16) - (b + 1)) (drop (b + 1) ws)) → r ≡ turnOf (Key k) (blockAt ws b)
+  -- the keys that the code lends to a search
+  abbrev lent : ℕ → List ℕ
+  lent tag = take (b + 1 + (getD ws b 0 - tag) - (b + 1)) (drop (b + 1) ws)
+
+  module _ (tag : ℕ) (h : getD ws b 0 ≤ tag + 7) where
+    lent-is : lent tag ≡ keysOf tag (blockAt ws b)
+    lent-is =
+        let z : b + 1 + (getD ws b 0 - tag) - (b + 1) ≡ getD ws b 0 - tag = omega arith in
+        rw (first-word, z) (sym (block-keys ws b (getD ws b 0 - tag) (omega arith)))
+
+    -- they rise, and a search in them finds what one in the keys of the node does
+    module _ (r : KeysRise (keysOf tag (blockAt ws b))) where
+      pub lent-rise : KeysRise (lent tag)
+      lent-rise = rw lent-is r
+
+      pub found-here : (k i : ℕ) (x : Found) → x ≡ searched k (lent tag) → x ≡ Here i → Stops k (keysOf tag (blockAt ws b)) i (i + 1)
+      found-here k i x e q = stops-here k (keysOf tag (blockAt ws b)) i r (sym q ∙ e ∙ ap (searched k) lent-is)
+
+      pub found-absent : (k i : ℕ) (x : Found) → x ≡ searched k (lent tag) → x ≡ Absent i → Stops k (keysOf tag (blockAt ws b)) i i
+      found-absent k i x e q = stops-absent k (keysOf tag (blockAt ws b)) i r (sym q ∙ e ∙ ap (searched k) lent-is)
+
+  few-keys : (tag : ℕ) → length (keysOf tag (blockAt ws b)) ≤ getD ws b 0 - tag
+  few-keys tag = simp (length-take, first-word) (omega arith)
+
+  pub turns-key : (k i up : ℕ) → Stops k (keysOf 16 (blockAt ws b)) i up → (up ≡ turnOf (Key k) (blockAt ws b)) × (up ≤ getD ws b 0 - 16)
   unfolding turnOf
-  turns-key k r h e =
-      let z : b + 1 + (getD ws b 0 - 16) - (b + 1) ≡ getD ws b 0 - 16 = omega arith in
-      let y : k + 1 ≡ suc k = omega arith in
-      rw first-word ((rw (z, y) at e) ∙ below-upto k (take (getD ws b 0 - 16) (drop (b + 1) ws)) ∙ ap (upto k) (sym (block-keys ws b (getD ws b 0 - 16) (omega arith))))
+  turns-key k i up s = (s .upto-is, omega (arith, few-keys 16))
+
+  pub lands-key : (k i up : ℕ) → Stops k (keysOf 32 (blockAt ws b)) i up → (i ≡ landOf (Key k) (blockAt ws b)) × (i ≤ getD ws b 0 - 32)
+  unfolding landOf
+  lands-key k i up s = (s .place, omega (arith, few-keys 32))
 
   pub turns-last : getD ws b 0 - 16 ≡ turnOf Last (blockAt ws b)
   unfolding turnOf
@@ -54,12 +69,6 @@ module _ (ws : List ℕ) (b : ℕ) where
   pub turns-first : 0 ≡ turnOf First (blockAt ws b)
   unfolding turnOf
   turns-first = refl
-
-  pub lands-key : (k r : ℕ) → getD ws b 0 ≤ 39 → r ≡ below k (take (b + 1 + (getD ws b 0 - 32) - (b + 1)) (drop (b + 1) ws)) → r ≡ landOf (Key k) (blockAt ws b)
-  unfolding landOf
-  lands-key k r h e =
-      let z : b + 1 + (getD ws b 0 - 32) - (b + 1) ≡ getD ws b 0 - 32 = omega arith in
-      rw first-word ((rw z at e) ∙ ap (below k) (sym (block-keys ws b (getD ws b 0 - 32) (omega arith))))
 
   pub lands-last : getD ws b 0 - 32 - 1 ≡ landOf Last (blockAt ws b)
   unfolding landOf
@@ -76,6 +85,12 @@ module _ (ws : List ℕ) (t n : ℕ) (l : Lies ws t n) where
 
   pub inner-bounds : getD ws (base t n) 0 < 32 → (16 ≤ getD ws (base t n) 0) × (getD ws (base t n) 0 ≤ 23)
   inner-bounds h = rw first-word at (l .inner (rw first-word h))
+
+  pub leaf-rise : 32 ≤ getD ws (base t n) 0 → KeysRise (keysOf 32 (block ws t n))
+  leaf-rise h = l .leaf-rises (rw first-word h)
+
+  pub inner-rise : getD ws (base t n) 0 < 32 → KeysRise (keysOf 16 (block ws t n))
+  inner-rise h = l .inner-rises (rw first-word h)
 
 pub lies-of : (f : ℕ) (ws : List ℕ) (t n : ℕ) → (f ≡ 0 → ⊥) → Deep f ws t n → Lies ws t n
 lies-of f ws t n z d = deep-lies ws t f n (omega arith) d

@@ -1,18 +1,15 @@
--- DEFINITIONS. What the functions on paths promise: for every well formed pool whose words these are, the path is that of a spot
+-- DEFINITIONS. What the functions that go down promise: for every well formed pool whose words these are, the path is that of a spot
 use mathlib.Core.Path.{_≡_}
 use mathlib.Core.List.{List}
-use mathlib.Core.Bool.{Bool}
 use mathlib.Core.Option.{Option, none, some}
-use Prim.Native.Nat.{ℕ, zero, suc, _-_, _<_}
+use Prim.Native.Nat.{ℕ, _<_}
 use lib.ListN.{getD}
 use Rattle.forest.specs.Sizes.{leafLeast}
 use Rattle.forest.specs.Pairs.{Item}
 use Rattle.forest.specs.Rows.{Row}
 use Rattle.forest.specs.Pools.{Pool, WellFormed, Sound, encode, treeOf}
-use Rattle.forest.specs.Cursors.{Spot, off, on, leaves, Fits, pairAt, leafStart, leafEnd, pathOf, cursorAt, Stands, stands, prev, prevPair}
-use Rattle.forest.specs.Answers.{answerOf, told}
+use Rattle.forest.specs.Cursors.{Spot, leaves, Fits, pairAt, pathOf, cursorAt, Stands, seek}
 use Rattle.forest.specs.declared.Cursor.{Cursor}
-use Rattle.forest.specs.declared.Moved.{Moved}
 use Rattle.path.specs.declared.Look.{Look}
 use Rattle.path.specs.declared.Look.the-variants.{Pair, Nothing}
 
@@ -40,21 +37,6 @@ pub record Standing (ws : List ℕ) (c : Cursor) : Type 0 where
 pub record Goes (f : Row → Spot) (ws : List ℕ) (tree : ℕ) (d : Cursor) : Type 0 where
   pub to : (p : Pool) → Of ws p → d ≡ cursorAt tree (pathOf (treeOf p tree) (f (leaves (treeOf p tree))))
 
--- from where c stands, d is the cursor of the spot f
-pub record Steps (f : Row → Spot → Spot) (ws : List ℕ) (c d : Cursor) : Type 0 where
-  pub to : (p : Pool) (s : Spot) → Of ws p → At p c s → d ≡ cursorAt (c .tree) (pathOf (treeOf p (c .tree)) (f (leaves (treeOf p (c .tree))) s))
-
--- the first pair of the next leaf
-abbrev pub nextLeaf : Row → Spot → Spot
-nextLeaf L off = off
-nextLeaf L (on j e) = leafStart L (suc j)
-
--- the last pair of the leaf before; in the first leaf none, and the cursor stays
-abbrev pub prevLeaf : Row → Spot → Spot
-prevLeaf L off = off
-prevLeaf L (on zero e) = on zero e
-prevLeaf L (on (suc j) e) = leafEnd L j
-
 -- what a look at a spot sees
 abbrev pub lookOf : Option Item → Look
 lookOf none = Nothing
@@ -63,16 +45,8 @@ lookOf (some x) = Pair (x .0) (x .1)
 pub record Sees (ws : List ℕ) (c : Cursor) (r : Look) : Type 0 where
   pub sees : (p : Pool) (s : Spot) → Of ws p → At p c s → r ≡ lookOf (pairAt (leaves (treeOf p (c .tree))) s)
 
--- the cursor, and the pair that it is on
-pub record Seen (ws : List ℕ) (c : Cursor) (r : Moved) : Type 0 where
-  pub cursor : r .cursor ≡ c
-  pub pair : (p : Pool) (s : Spot) → Of ws p → At p c s → answerOf (r .reply) ≡ told (pairAt (leaves (treeOf p (c .tree))) s)
-
--- whether a cursor stands
-pub record Tells (ws : List ℕ) (c : Cursor) (r : Bool) : Type 0 where
-  pub tells : (p : Pool) → Of ws p → r ≡ stands (treeOf p (c .tree)) c
-
--- prev: the cursor, and the pair that it gives
-pub record Back (ws : List ℕ) (c : Cursor) (r : Moved) : Type 0 where
-  pub cursor : Steps prev ws c (r .cursor)
-  pub pair : (p : Pool) (s : Spot) → Of ws p → At p c s → answerOf (r .reply) ≡ told (prevPair (leaves (treeOf p (c .tree))) s)
+-- what stands at the place of a key: what a look at the cursor sees that seek makes
+pub record Looks (key : ℕ) (ws : List ℕ) (tree : ℕ) (r : Look) : Type 0 where
+  pub at : Cursor
+  pub goes : Goes (seek key) ws tree at
+  pub sees : Sees ws at r

@@ -14,7 +14,7 @@ use Rattle.forest.specs.Rows.{Tree}
 use Rattle.forest.specs.Answers.{nothing, refusal}
 use Rattle.forest.specs.Pools.{inTrees, nodesFrom, root, encode, fresh, fresh-stack, formatted, formatWords, formatAnswer, Sound}
 use Rattle.forest.proofs.CountLaws.{fresh-formed}
-use Rattle.forest.proofs.ListLaws.{is, isnt, test, tests}
+use Rattle.forest.proofs.ListLaws.{is, isnt, test}
 use Rattle.pool.specs.Stores.{patched, down}
 use Rattle.pool.proofs.Patches.{copied-in, set-patched, begun, patched-length}
 

@@ -3,3 +3,4 @@ pub mod Bridges
 pub mod Stacks
 pub mod Patches
 pub mod Fresh
+pub mod Held

@@ -7,6 +7,9 @@ use lib.ListN.{length, take, drop, getD, set}
 use lib.Dec.{eqb}
 use Rattle.forest.specs.Sizes.{mostNodes, nodeSize}
 use Rattle.forest.specs.Lists.{pad}
+use Rattle.forest.specs.Pairs.{Item}
+use Rattle.forest.specs.Rows.{Row, node, nums}
+use Rattle.forest.specs.Pools.{innerWords}
 
 -- a store: the words of each number
 abbrev pub Store : Type 0
@@ -19,6 +22,30 @@ put st n w = λ x. cond (eqb x n) w (st x)
 -- each number has the words of a node
 abbrev pub Sixteen : Store → Type 0
 Sixteen st = (n : ℕ) → length (st n) ≡ nodeSize
+
+-- Rows in a store
+
+-- the number of the j-th node
+abbrev pub numAt : Row → ℕ → ℕ
+numAt R j = getD (nums R) j 0
+
+-- the items of the j-th node become f of them
+abbrev pub upd : ℕ → (List Item → List Item) → Row → Row
+upd j f [] = []
+upd zero f (n ∷ R) = node (n .num) (f (n .items)) ∷ R
+upd (suc j) f (n ∷ R) = n ∷ upd j f R
+
+-- the store has the words of every node of the row
+abbrev pub Holds : (List Item → List ℕ) → Store → Row → Type 0
+Holds words st [] = Unit {0}
+Holds words st (n ∷ R) = (st (n .num) ≡ words (n .items)) × Holds words st R
+
+-- and of the rows above the leaves
+abbrev pub HoldsUp : Store → List Row → Type 0
+HoldsUp st [] = Unit {0}
+HoldsUp st (S ∷ Ss) = Holds innerWords st S × HoldsUp st Ss
+
+-- The words
 
 -- the words of c nodes from number n on
 abbrev pub blocks : Store → ℕ → ℕ → List ℕ

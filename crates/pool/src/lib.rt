@@ -1,7 +1,7 @@
 // The pool of nodes: its layout in the words, reading and storing a node, taking and freeing one, formatting.
 ghost use mathlib.Core.Path.{_≡_};
-ghost use mathlib.Core.Bool.{Bool, true, false};
-ghost use Prim.Native.Nat.{ℕ, _+_, _-_, _*_, _≤_, _<_};
+ghost use mathlib.Core.Bool.{false};
+ghost use Prim.Native.Nat.{_+_, _-_, _*_, _≤_, _<_};
 ghost use lib.ListN.{length, getD, set, replicate};
 ghost use lib.Dec.{eqb};
 ghost use Rattle.forest.specs.Answers.{answerOf};

@@ -1,30 +1,31 @@
 -- PROOFS. And back: of the words of a well formed pool the check says yes
 use mathlib.Core.Path.{_≡_, refl, sym, ap, _∙_, subst}
 use mathlib.Core.List.{List, [], _∷_, _++_, append-nil, map, reverse}
-use mathlib.Core.Bool.{Bool, true, false, _&&_, not}
+use mathlib.Core.Bool.{Bool, true, false, _&&_}
 use Prim.Native.Nat.{ℕ, zero, suc, _+_, _-_, _*_, _≤_, _<_}
 use native.Mathlib.Omega.{arith}
 use lib.ListN.{length, getD, length-append, length-map, length-reverse}
 use lib.Dec.{leb, eqb}
 use borrow.Author.Tests.{eqb-true, eqb-false, eq-eqb, ne-eqb, le-leb, lt-leb, leb-true, leb-false}
-use Rattle.forest.proofs.CountLaws.{encode-length}
+use Rattle.forest.proofs.CountLaws.{encode-length, nodes-length}
 use Rattle.forest.specs.Lists.{once, total, count, pad}
 use Rattle.forest.specs.Pairs.{Item, Rising}
-use Rattle.forest.specs.Rows.{Row, Tree, Good, line}
+use Rattle.forest.specs.Rows.{Tree, Good, line}
 use Rattle.forest.specs.Trees.{pairs, numbers}
 use Rattle.forest.specs.Pools.{Pool, WellFormed, AllGood, used, root, leafWords, innerWords, nodeWords, nodesFrom, encode, Sound}
-use Rattle.forest.proofs.ListLaws.{is, isnt, test, total-append, total-length}
+use Rattle.forest.proofs.ListLaws.{is, isnt, test, total-append}
 use Rattle.walk.specs.declared.Walked.{Walked}
-use Rattle.walk.specs.Marks.{has, mark, markAll}
+use Rattle.walk.specs.Marks.{mark, markAll}
 use Rattle.walk.proofs.MarkLaws.{Small, marks-count, fresh-once, clean, has-clean}
 use Rattle.walk.proofs.Subtree.{Sub, crown, flat, rowsOf, pairsOf, numsOf, Flagged, Each, Filled, Held, HeldTree, Fresh}
-use Rattle.walk.proofs.Towers.{tops, length-line, Wide, tree-one, rows-held, root-rows, numbers-rows, pairs-rows}
+use Rattle.walk.proofs.Towers.{tops, Wide, tree-one, rows-held, root-rows, numbers-rows, pairs-rows}
 use Rattle.walk.specs.Walks.{lastly, span, zeros, place, walk}
 use Rattle.walk.proofs.WalkLaws.{span-pad, pad-zeros, inner-does}
 use Rattle.walk.proofs.WalkExact.{store, Ranged, walk-does, meets-does, lowOf, fresh-left, fresh-right, marks-append, each-left, each-right, lower-pos}
 use Rattle.sound.specs.Checks.{levels, wide, fine, treeWalk, trees, frees, allMarked, framed, stacked, filled, checked}
-use Rattle.sound.proofs.CheckLaws.{rising-climbs, Parts, parts, trees-held, trees-skip, length-nodes, nodes-part, total-reverse}
+use Rattle.sound.proofs.CheckLaws.{rising-climbs, Parts, parts, trees-held, trees-skip, nodes-part, total-reverse}
 use Rattle.sound.proofs.CheckYes.{marked-does}
+use Rattle.forest.proofs.RowLaws.{length-line}
 
 -- Six levels at most: a subtree of h inner levels that is not on the right edge has this many nodes
 abbrev pub many : ℕ → ℕ
@@ -371,7 +372,7 @@ encode-checked ws m p w e =
     let T = length (p .trees) in
     let N = p .count in
     let l : length ws ≡ length (p .trees) + 17 * p .count + 3 = ap length (sym e) ∙ encode-length p in
-    let q = parts ws T N l T (map root (p .trees)) N (nodesFrom (p .trees) 1 N) (length (p .free)) (pad N (reverse (p .free))) (length-map (p .trees) root) (length-nodes (p .trees) 1 N) e in
+    let q = parts ws T N l T (map root (p .trees)) N (nodesFrom (p .trees) 1 N) (length (p .free)) (pad N (reverse (p .free))) (length-map (p .trees) root) (nodes-length (p .trees) 1 N) e in
     rw (
       q .t-same,
       q .n-same,

@@ -1,14 +1,14 @@
 -- PROOFS. For the check of a whole pool: order, the layout of the words, nodes by number, counts
 use mathlib.Core.Path.{_≡_, refl, sym, ap, ap₂, _∙_}
-use mathlib.Core.List.{List, [], _∷_, _++_, append-nil, map, reverse, reverseAux}
+use mathlib.Core.List.{List, [], _∷_, _++_, append-nil, reverse, reverseAux}
 use mathlib.Core.Bool.{true}
 use Prim.Native.Nat.{ℕ, zero, suc, _+_, _-_, _*_, _≤_, _<_}
 use native.Mathlib.Omega.{arith}
-use lib.ListN.{length, getD, drop, length-append}
+use lib.ListN.{length, getD, length-append}
 use lib.Seq.{getD-append-seam, append-snoc}
 use lib.Dec.{leb, eqb}
 use borrow.Author.Tests.{eqb-true, eqb-false, eq-eqb, le-leb, leb-true}
-use Rattle.forest.specs.Lists.{once, total, count, pad}
+use Rattle.forest.specs.Lists.{once, total, count}
 use Rattle.forest.specs.Pairs.{Item, Above, Rising}
 use Rattle.forest.specs.Rows.{Node, Row, Tree, nums}
 use Rattle.forest.specs.Trees.{numbers}
@@ -16,7 +16,8 @@ use Rattle.forest.specs.Pools.{leafWords, innerWords, used, inRow, inRows, inTr
 use Rattle.forest.proofs.ListLaws.{is, isnt, test, total-append}
 use Rattle.walk.proofs.Subtree.{Each, HeldRows, HeldTree}
 use Rattle.walk.specs.Walks.{span, climbs, place}
-use Rattle.walk.proofs.WalkLaws.{both, length-span, span-append, append-parts, length-pad}
+use Rattle.walk.proofs.WalkLaws.{both, length-span, span-append, append-parts}
+use Rattle.forest.proofs.CountLaws.{node-length}
 
 -- Order
 climbs-above : (k q : ℕ) (xs : List Item) → k < q → climbs q xs ≡ true → Above k xs
@@ -176,37 +177,12 @@ trees-skip n (x ∷ xs) or c =
     let s = total-append (λ y. once (eqb n y)) (numbers x) (used xs) in
     tree-skips (λ k. []) n x (inTrees n xs or) (omega arith) ∙ trees-skip n xs or (omega arith)
 
--- the words of a node are sixteen
-length-leaf : (xs : List Item) → length (leafWords xs) ≡ 16
-length-leaf xs = ap suc (length-append (pad 7 (map (λ (x : Item). x .0) xs)) (pad 8 (map (λ (x : Item). x .1) xs)) ∙ omega (arith, length-pad 7 (map (λ (x : Item). x .0) xs), length-pad 8 (map (λ (x : Item). x .1) xs)))
-
-length-inner : (xs : List Item) → length (innerWords xs) ≡ 16
-length-inner xs =
-    ap suc (length-append (pad 7 (map (λ (x : Item). x .0) (drop 1 xs))) (pad 8 (map (λ (x : Item). x .1) xs)) ∙
-    omega (arith, length-pad 7 (map (λ (x : Item). x .0) (drop 1 xs)), length-pad 8 (map (λ (x : Item). x .1) xs)))
-
 length-inRow : (words : List Item → List ℕ) → ((xs : List Item) → length (words xs) ≡ 16) → (n : ℕ) (R : Row) (or : List ℕ) → length or ≡ 16 → length (inRow words n R or) ≡ 16
 length-inRow words w n [] or l = l
 length-inRow words w n (k ∷ R) or l = elim (test (eqb n (k .num))) [
   | is e ↦ simp e (w (k .items))
   | isnt e ↦ simp e (length-inRow words w n R or l)
 ]
-
-length-inRows : (n : ℕ) (Rs : List Row) (or : List ℕ) → length or ≡ 16 → length (inRows n Rs or) ≡ 16
-length-inRows n [] or l = l
-length-inRows n (R ∷ Rs) or l = length-inRow innerWords length-inner n R (inRows n Rs or) (length-inRows n Rs or l)
-
-length-inTrees : (n : ℕ) (xs : List Tree) (or : List ℕ) → length or ≡ 16 → length (inTrees n xs or) ≡ 16
-length-inTrees n [] or l = l
-length-inTrees n ([] ∷ xs) or l = length-inTrees n xs or l
-length-inTrees n ((R ∷ Rs) ∷ xs) or l = length-inRow leafWords length-leaf n R (inRows n Rs (inTrees n xs or)) (length-inRows n Rs (inTrees n xs or) (length-inTrees n xs or l))
-
-pub length-node : (xs : List Tree) (n : ℕ) → length (nodeWords xs n) ≡ 16
-length-node xs n = length-inTrees n xs (pad 16 []) refl
-
-pub length-nodes : (xs : List Tree) (n c : ℕ) → length (nodesFrom xs n c) ≡ 16 * c
-length-nodes xs n zero = refl
-length-nodes xs n (suc c) = length-append (nodeWords xs n) (nodesFrom xs (suc n) c) ∙ omega (arith, length-node xs n, length-nodes xs (suc n) c)
 
 -- the words of the nodes, one by one
 module _ (ws : List ℕ) (T : ℕ) (xs : List Tree) where
@@ -224,7 +200,7 @@ module _ (ws : List ℕ) (T : ℕ) (xs : List Tree) where
       let e : 16 * suc c ≡ 16 + 16 * c = omega arith in
       let p : place T n + 16 ≡ place T (suc n) = omega arith in
       let d : span ws (place T n) 16 ++ span ws (place T (suc n)) (16 * c) ≡ nodeWords xs n ++ nodesFrom xs (suc n) c = rw (e, span-append ws (place T n) 16 (16 * c), p) at h in
-      let i = append-parts (span ws (place T n) 16) (nodeWords xs n) _ _ (length-span ws (place T n) 16 ∙ sym (length-node xs n)) d in
+      let i = append-parts (span ws (place T n) 16) (nodeWords xs n) _ _ (length-span ws (place T n) 16 ∙ sym (node-length xs n)) d in
       elim (test (eqb n k)) [
         | is f ↦ let s : n ≡ k = eqb-true n k f in rw s at (i .0)
         | isnt f ↦ let s = eqb-false n k f in nodes-part (suc n) c (omega arith) (i .1) k (omega arith) (omega arith)

@@ -1,7 +1,7 @@
 -- PROOFS. Where the check says yes the words are those of a well formed pool
 use mathlib.Core.Path.{_≡_, refl, sym, ap, _∙_, subst}
 use mathlib.Core.List.{List, [], _∷_, _++_, append-nil, map, reverse}
-use mathlib.Core.Bool.{true, false, cond, true≢false, _&&_}
+use mathlib.Core.Bool.{true, cond, true≢false, _&&_}
 use Prim.Native.Nat.{ℕ, zero, suc, _+_, _-_, _*_, _≤_}
 use native.Mathlib.Omega.{arith}
 use lib.ListN.{length, getD, length-append, length-map, length-reverse}

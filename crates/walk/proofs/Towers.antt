@@ -14,14 +14,11 @@ use Rattle.forest.specs.Pools.{leafWords, innerWords, root, rootAbove}
 use Rattle.forest.proofs.ListLaws.{map-append, map-take, map-drop, total-append}
 use Rattle.walk.proofs.Subtree
 use Rattle.walk.specs.Walks
+use Rattle.forest.proofs.RowLaws.{length-line}
 
 line-append : (R S : Row) → line (R ++ S) ≡ line R ++ line S
 line-append [] S = refl
 line-append (n ∷ R) S = rw (line-append R S)
-
-pub length-line : (R : Row) → length (line R) ≡ length R
-length-line [] = refl
-length-line (n ∷ R) = ap suc (length-line R)
 
 module _ {A B C : Type 0} (f : B → List C) (g : A → List B) where
   flat-append : (xs ys : List B) → Subtree.flat f (xs ++ ys) ≡ Subtree.flat f xs ++ Subtree.flat f ys

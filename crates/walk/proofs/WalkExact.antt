@@ -14,9 +14,10 @@ use Rattle.walk.specs.declared.Walked.{Walked}
 use Rattle.walk.specs.Marks.{has, mark, markAll}
 use Rattle.walk.proofs.Subtree.{Sub, crown, flat, pairsOf, numsOf, Flagged, Each, Filled, Held, Fresh}
 use Rattle.walk.specs.Walks.{lastly, lower}
-use Rattle.walk.proofs.Towers.{tops, length-line}
+use Rattle.walk.proofs.Towers.{tops}
 use Rattle.walk.specs.Walks.{span, climbs, ends, bad, place, meets, leafFits, leafItems, leafWalk, innerFits, rest, others, innerWalk, walk}
 use Rattle.walk.proofs.WalkLaws.{both, leaf-yes, leaf-does, inner-yes, inner-does}
+use Rattle.forest.proofs.RowLaws.{length-line}
 
 -- Appended lists
 and-assoc : (a b c : Bool) → (a && b) && c ≡ a && (b && c)

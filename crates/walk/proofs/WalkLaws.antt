@@ -9,11 +9,10 @@ use lib.Dec.{leb, eqb}
 use borrow.Author.Tests.{eqb-true, le-leb, leb-true}
 use Rattle.forest.specs.Lists.{pad}
 use Rattle.forest.specs.Pairs.{Item}
-use Rattle.forest.specs.Rows.{node}
 use Rattle.forest.specs.Pools.{leafWords, innerWords}
-use Rattle.forest.proofs.ListLaws.{is}
 use Rattle.walk.specs.Walks.{lower}
-use Rattle.walk.specs.Walks.{span, items, zeros, leafFits, leafItems, innerFits, others, walk}
+use Rattle.walk.specs.Walks.{span, items, zeros, leafFits, leafItems, innerFits, others}
+use Rattle.forest.proofs.CountLaws.{length-pad}
 
 -- Bool
 pub both : (a b : Bool) → a && b ≡ true → (a ≡ true) × (b ≡ true)
@@ -112,11 +111,6 @@ module _ {A : Type 0} where
       let q : xs ++ ys ≡ us ++ vs = cc in
       let i = append-parts xs us ys vs (omega arith) q in
       (rw (p, i .0), i .1)
-
-pub length-pad : (c : ℕ) (xs : List ℕ) → length (pad c xs) ≡ c
-length-pad zero xs = refl
-length-pad (suc c) [] = ap suc (length-pad c [])
-length-pad (suc c) (x ∷ xs) = ap suc (length-pad c xs)
 
 -- A node's words
 module _ (ws : List ℕ) (b : ℕ) where

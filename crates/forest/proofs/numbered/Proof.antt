@@ -1,7 +1,5 @@
 -- `forest::numbered` gives the answer that a reply is
-use mathlib.Core.Path.{ap, _∙_, sym}
 use borrow.Author.Needs.{needs}
-use Rattle.forest.specs.Answers.{answerOf}
 use Rattle.forest.proofs.numbered.Statement.{statement}
 use Rattle.forest.proofs.numbered.Tie as tie
 use Rattle.forest.proofs.numbered.Reads as reads

@@ -2,9 +2,9 @@ use borrow.Author.Needs.{needs}
 use mathlib.Core.Path.{refl}
 use Prim.Native.Nat.{_*_, _+_, _-_}
 use native.Mathlib.Omega.{arith}
+use Rattle.heal.specs.Cycle.{innerKind}
 use Rattle.heal.proofs.CycleLaws
 use Rattle.heal.proofs.InnerOps.{inner-law}
-use Rattle.heal.specs.Cycle.{innerKind}
 use Prim.Native.Nat.{ℕ, _<_}
 use borrow.Fn.Kinds.{In}
 use borrow.Fn.PlainCycle.{Measures, is, falls, and}
@@ -19,10 +19,10 @@ use Rattle.heal.proofs.underflowed_node.Kinds as underflowed-node-kinds
 use Rattle.heal.proofs.+empty_node+heal_level+underflowed_node.Lts-underflowed_node as underflowed-node-lts
 use Rattle.heal.proofs.cut_parent.Reads as cut-parent-reads
 use Rattle.heal.proofs.join.Reads as join-reads
-use Rattle.heal.proofs.next_node.Reads as next-node-reads
+use Rattle.crit.proofs.next_node.Reads as next-node-reads
 use Rattle.heal.proofs.no_right.Reads as no-right-reads
-use Rattle.heal.proofs.right_sibling.Reads as right-sibling-reads
-use Rattle.heal.proofs.settle.Reads as settle-reads
+use Rattle.crit.proofs.right_sibling.Reads as right-sibling-reads
+use Rattle.crit.proofs.settle.Reads as settle-reads
 use Rattle.pool.proofs.free_node.Reads as free-node-reads
 use Rattle.heal.proofs.+empty_node+heal_level+underflowed_node.{statement}
 use Rattle.heal.proofs.+empty_node+heal_level+underflowed_node.Tie.{close}
@@ -68,7 +68,7 @@ underflowed-node-below t =
     (falls 1 underflowed-node-kinds.ps _<_ μ-underflowed-node t)
     underflowed-node.Pre
 
--- src/lib.rt:285:13
+-- src/lib.rt:105:13
 empty-node-mul-n : (t : ℕ) → empty-node-lts.Need-mul-n (
   free-node-reads.Asked,
   free-node-reads.Learnt,
@@ -83,7 +83,7 @@ empty-node-mul-n : (t : ℕ) → empty-node-lts.Need-mul-n (
 ) (empty-node-at t) empty-node.Post
 empty-node-mul-n t c = omega (arith, c .before .pre .1 .deep)
 
--- src/lib.rt:285:13
+-- src/lib.rt:105:13
 empty-node-element-copy-out-n : (t : ℕ) → empty-node-lts.Need-element-copy-out-n (
   free-node-reads.Asked,
   free-node-reads.Learnt,
@@ -98,7 +98,7 @@ empty-node-element-copy-out-n : (t : ℕ) → empty-node-lts.Need-element-copy-o
 ) (empty-node-at t) empty-node.Post
 empty-node-element-copy-out-n t c = omega (arith, c .before .pre .1 .deep)
 
--- src/lib.rt:286:5
+-- src/lib.rt:106:5
 empty-node-free-node-requires : (t : ℕ) → empty-node-lts.Need-free-node-requires (
   free-node-reads.Asked,
   free-node-reads.Learnt,
@@ -113,7 +113,7 @@ empty-node-free-node-requires : (t : ℕ) → empty-node-lts.Need-free-node-requ
 ) (empty-node-at t) empty-node.Post
 empty-node-free-node-requires t c κs = CycleLaws.free-asks (c .before .before .before .pre .1)
 
--- src/lib.rt:290:9
+-- src/lib.rt:110:9
 empty-node-same-length : (t : ℕ) → empty-node-lts.Need-same-length (
   free-node-reads.Asked,
   free-node-reads.Learnt,
@@ -128,7 +128,7 @@ empty-node-same-length : (t : ℕ) → empty-node-lts.Need-same-length (
 ) (empty-node-at t) empty-node.Post
 empty-node-same-length t c = search needs
 
--- src/lib.rt:290:9
+-- src/lib.rt:110:9
 empty-node-returns : (t : ℕ) → empty-node-lts.Need-returns (
   free-node-reads.Asked,
   free-node-reads.Learnt,
@@ -143,7 +143,7 @@ empty-node-returns : (t : ℕ) → empty-node-lts.Need-returns (
 ) (empty-node-at t) empty-node.Post
 empty-node-returns t c = CycleLaws.empties-root (omega arith) (CycleLaws.free-leaves (c .before .before .before .before .before .before .before .pre .1) _ (c .before .before .before .free-node .ensures)) refl refl refl refl
 
--- src/lib.rt:292:9
+-- src/lib.rt:112:9
 empty-node-right-sibling-requires : (t : ℕ) → empty-node-lts.Need-right-sibling-requires (
   free-node-reads.Asked,
   free-node-reads.Learnt,
@@ -158,7 +158,7 @@ empty-node-right-sibling-requires : (t : ℕ) → empty-node-lts.Need-right-sibl
 ) (empty-node-at t) empty-node.Post
 empty-node-right-sibling-requires t c κs = CycleLaws.free-way (c .before .before .before .before .before .before .before .before .pre .1) _ (c .before .before .before .before .free-node .ensures)
 
--- src/lib.rt:293:9
+-- src/lib.rt:113:9
 empty-node-cut-parent-requires : (t : ℕ) → empty-node-lts.Need-cut-parent-requires (
   free-node-reads.Asked,
   free-node-reads.Learnt,
@@ -173,7 +173,7 @@ empty-node-cut-parent-requires : (t : ℕ) → empty-node-lts.Need-cut-parent-re
 ) (empty-node-at t) empty-node.Post
 empty-node-cut-parent-requires t c κs = (CycleLaws.free-way (c .before .before .before .before .before .before .before .before .before .before .pre .1) _ (c .before .before .before .before .before .before .free-node .ensures), omega (arith, c .before .before .before .if1 .left))
 
--- src/lib.rt:294:42
+-- src/lib.rt:114:42
 empty-node-sub-heal-level : (t : ℕ) → empty-node-lts.Need-sub-heal-level (
   free-node-reads.Asked,
   free-node-reads.Learnt,
@@ -188,7 +188,7 @@ empty-node-sub-heal-level : (t : ℕ) → empty-node-lts.Need-sub-heal-level (
 ) (empty-node-at t) empty-node.Post
 empty-node-sub-heal-level t c = search needs
 
--- src/lib.rt:294:9
+-- src/lib.rt:114:9
 empty-node-heal-level-requires : (t : ℕ) → empty-node-lts.Need-heal-level-requires (
   free-node-reads.Asked,
   free-node-reads.Learnt,
@@ -203,7 +203,7 @@ empty-node-heal-level-requires : (t : ℕ) → empty-node-lts.Need-heal-level-re
 ) (empty-node-at t) empty-node.Post
 empty-node-heal-level-requires t c κs = (omega (arith, c .before .before .before .before .before .before .before .before .before .before .before .before .before .before .pre .0, c .before .before .before .before .before .before .before .if1 .left), CycleLaws.ask-cut (c .before .before .before .before .before .before .before .before .before .before .before .before .before .before .pre .1) (omega (arith, c .before .before .before .before .before .before .before .if1 .left)) (CycleLaws.free-leaves (c .before .before .before .before .before .before .before .before .before .before .before .before .before .before .pre .1) _ (c .before .before .before .before .before .before .before .before .before .before .free-node .ensures)) (c .before .before .before .cut-parent .ensures))
 
--- src/lib.rt:295:5
+-- src/lib.rt:115:5
 empty-node-settle-requires : (t : ℕ) → empty-node-lts.Need-settle-requires (
   free-node-reads.Asked,
   free-node-reads.Learnt,
@@ -218,7 +218,7 @@ empty-node-settle-requires : (t : ℕ) → empty-node-lts.Need-settle-requires (
 ) (empty-node-at t) empty-node.Post
 empty-node-settle-requires t c κs = c .before .before .before .before .before .before .before .before .before .before .before .before .before .before .before .before .before .pre .1 .deep
 
--- src/lib.rt:281:1
+-- src/lib.rt:101:1
 empty-node-same-length-2 : (t : ℕ) → empty-node-lts.Need-same-length-2 (
   free-node-reads.Asked,
   free-node-reads.Learnt,
@@ -233,7 +233,7 @@ empty-node-same-length-2 : (t : ℕ) → empty-node-lts.Need-same-length-2 (
 ) (empty-node-at t) empty-node.Post
 empty-node-same-length-2 t c = search needs
 
--- src/lib.rt:281:1
+-- src/lib.rt:101:1
 empty-node-returns-2 : (t : ℕ) → empty-node-lts.Need-returns-2 (
   free-node-reads.Asked,
   free-node-reads.Learnt,
@@ -248,7 +248,7 @@ empty-node-returns-2 : (t : ℕ) → empty-node-lts.Need-returns-2 (
 ) (empty-node-at t) empty-node.Post
 empty-node-returns-2 t c = CycleLaws.empties (c .before .before .before .before .before .before .before .before .before .before .before .before .before .before .before .before .before .before .pre .1 .deep) (omega (arith, c .before .before .before .before .before .before .before .before .before .before .before .if1 .left)) (CycleLaws.free-leaves (c .before .before .before .before .before .before .before .before .before .before .before .before .before .before .before .before .before .before .pre .1) _ (c .before .before .before .before .before .before .before .before .before .before .before .before .before .before .free-node .ensures)) (c .before .before .before .before .before .before .before .before .before .right-sibling .ensures) (c .before .before .before .before .before .before .before .cut-parent .ensures) (c .before .before .before .heal-level .ensures) (c .settle .ensures)
 
--- src/lib.rt:251:13
+-- src/lib.rt:71:13
 heal-level-enum-told : (t : ℕ) → heal-level-lts.Need-enum-told (
   next-node-reads.Asked,
   next-node-reads.Learnt,
@@ -259,7 +259,7 @@ heal-level-enum-told : (t : ℕ) → heal-level-lts.Need-enum-told (
 ) (heal-level-at t) heal-level.Post
 heal-level-enum-told t c = search needs
 
--- src/lib.rt:251:13
+-- src/lib.rt:71:13
 heal-level-returns : (t : ℕ) → heal-level-lts.Need-returns (
   next-node-reads.Asked,
   next-node-reads.Learnt,
@@ -270,7 +270,7 @@ heal-level-returns : (t : ℕ) → heal-level-lts.Need-returns (
 ) (heal-level-at t) heal-level.Post
 heal-level-returns t c = CycleLaws.heals-0 innerKind (c .enum-told .given .1)
 
--- src/lib.rt:254:30
+-- src/lib.rt:74:36
 heal-level-enum-told-2 : (t : ℕ) → heal-level-lts.Need-enum-told-2 (
   next-node-reads.Asked,
   next-node-reads.Learnt,
@@ -281,7 +281,7 @@ heal-level-enum-told-2 : (t : ℕ) → heal-level-lts.Need-enum-told-2 (
 ) (heal-level-at t) heal-level.Post
 heal-level-enum-told-2 t c = search needs
 
--- src/lib.rt:254:13
+-- src/lib.rt:74:13
 heal-level-next-node-requires : (t : ℕ) → heal-level-lts.Need-next-node-requires (
   next-node-reads.Asked,
   next-node-reads.Learnt,
@@ -292,7 +292,7 @@ heal-level-next-node-requires : (t : ℕ) → heal-level-lts.Need-next-node-requ
 ) (heal-level-at t) heal-level.Post
 heal-level-next-node-requires t c κs = CycleLaws.heal-way innerKind inner-law (c .before .before .before .before .pre .1)
 
--- src/lib.rt:254:13
+-- src/lib.rt:74:13
 heal-level-same-length : (t : ℕ) → heal-level-lts.Need-same-length (
   next-node-reads.Asked,
   next-node-reads.Learnt,
@@ -303,7 +303,7 @@ heal-level-same-length : (t : ℕ) → heal-level-lts.Need-same-length (
 ) (heal-level-at t) heal-level.Post
 heal-level-same-length t c = search needs
 
--- src/lib.rt:254:13
+-- src/lib.rt:74:13
 heal-level-returns-2 : (t : ℕ) → heal-level-lts.Need-returns-2 (
   next-node-reads.Asked,
   next-node-reads.Learnt,
@@ -314,7 +314,7 @@ heal-level-returns-2 : (t : ℕ) → heal-level-lts.Need-returns-2 (
 ) (heal-level-at t) heal-level.Post
 heal-level-returns-2 t c = CycleLaws.heals-1 innerKind (c .before .before .enum-told2 .given .1) (c .next-node .ensures)
 
--- src/lib.rt:257:37
+-- src/lib.rt:77:37
 heal-level-enum-told-3 : (t : ℕ) → heal-level-lts.Need-enum-told-3 (
   next-node-reads.Asked,
   next-node-reads.Learnt,
@@ -325,7 +325,7 @@ heal-level-enum-told-3 : (t : ℕ) → heal-level-lts.Need-enum-told-3 (
 ) (heal-level-at t) heal-level.Post
 heal-level-enum-told-3 t c = search needs
 
--- src/lib.rt:257:13
+-- src/lib.rt:77:13
 heal-level-underflowed-node-requires : (t : ℕ) → heal-level-lts.Need-underflowed-node-requires (
   next-node-reads.Asked,
   next-node-reads.Learnt,
@@ -336,7 +336,7 @@ heal-level-underflowed-node-requires : (t : ℕ) → heal-level-lts.Need-underfl
 ) (heal-level-at t) heal-level.Post
 heal-level-underflowed-node-requires t c κs = (omega (arith, c .before .before .before .before .pre .0), CycleLaws.ask-under innerKind inner-law (c .before .before .before .before .pre .1) (c .before .enum-told3 .given .1))
 
--- src/lib.rt:257:13
+-- src/lib.rt:77:13
 heal-level-same-length-2 : (t : ℕ) → heal-level-lts.Need-same-length-2 (
   next-node-reads.Asked,
   next-node-reads.Learnt,
@@ -347,7 +347,7 @@ heal-level-same-length-2 : (t : ℕ) → heal-level-lts.Need-same-length-2 (
 ) (heal-level-at t) heal-level.Post
 heal-level-same-length-2 t c = search needs
 
--- src/lib.rt:257:13
+-- src/lib.rt:77:13
 heal-level-returns-3 : (t : ℕ) → heal-level-lts.Need-returns-3 (
   next-node-reads.Asked,
   next-node-reads.Learnt,
@@ -358,7 +358,7 @@ heal-level-returns-3 : (t : ℕ) → heal-level-lts.Need-returns-3 (
 ) (heal-level-at t) heal-level.Post
 heal-level-returns-3 t c = CycleLaws.heals-2 innerKind (c .before .before .before .before .enum-told3 .given .1) (c .before .before .underflowed-node .ensures)
 
--- src/lib.rt:260:31
+-- src/lib.rt:80:31
 heal-level-enum-told-4 : (t : ℕ) → heal-level-lts.Need-enum-told-4 (
   next-node-reads.Asked,
   next-node-reads.Learnt,
@@ -369,7 +369,7 @@ heal-level-enum-told-4 : (t : ℕ) → heal-level-lts.Need-enum-told-4 (
 ) (heal-level-at t) heal-level.Post
 heal-level-enum-told-4 t c = search needs
 
--- src/lib.rt:260:13
+-- src/lib.rt:80:13
 heal-level-empty-node-requires : (t : ℕ) → heal-level-lts.Need-empty-node-requires (
   next-node-reads.Asked,
   next-node-reads.Learnt,
@@ -380,7 +380,7 @@ heal-level-empty-node-requires : (t : ℕ) → heal-level-lts.Need-empty-node-re
 ) (heal-level-at t) heal-level.Post
 heal-level-empty-node-requires t c κs = (omega (arith, c .before .before .before .before .pre .0), CycleLaws.ask-none innerKind inner-law (c .before .before .before .before .pre .1) (c .before .enum-told4 .given .1))
 
--- src/lib.rt:260:13
+-- src/lib.rt:80:13
 heal-level-same-length-3 : (t : ℕ) → heal-level-lts.Need-same-length-3 (
   next-node-reads.Asked,
   next-node-reads.Learnt,
@@ -391,7 +391,7 @@ heal-level-same-length-3 : (t : ℕ) → heal-level-lts.Need-same-length-3 (
 ) (heal-level-at t) heal-level.Post
 heal-level-same-length-3 t c = search needs
 
--- src/lib.rt:260:13
+-- src/lib.rt:80:13
 heal-level-returns-4 : (t : ℕ) → heal-level-lts.Need-returns-4 (
   next-node-reads.Asked,
   next-node-reads.Learnt,
@@ -402,7 +402,7 @@ heal-level-returns-4 : (t : ℕ) → heal-level-lts.Need-returns-4 (
 ) (heal-level-at t) heal-level.Post
 heal-level-returns-4 t c = CycleLaws.heals-3 innerKind (c .before .before .before .before .enum-told4 .given .1) (c .before .before .empty-node .ensures)
 
--- src/lib.rt:270:9
+-- src/lib.rt:90:9
 underflowed-node-right-sibling-requires :
     (t : ℕ) → underflowed-node-lts.Need-right-sibling-requires (
       right-sibling-reads.Asked,
@@ -416,7 +416,7 @@ underflowed-node-right-sibling-requires :
     ) (underflowed-node-at t) underflowed-node.Post
 underflowed-node-right-sibling-requires t c κs = CycleLaws.heal-way innerKind inner-law (c .before .before .pre .1)
 
--- src/lib.rt:272:12
+-- src/lib.rt:92:12
 underflowed-node-join-requires : (t : ℕ) → underflowed-node-lts.Need-join-requires (
   right-sibling-reads.Asked,
   right-sibling-reads.Learnt,
@@ -429,7 +429,7 @@ underflowed-node-join-requires : (t : ℕ) → underflowed-node-lts.Need-join-re
 ) (underflowed-node-at t) underflowed-node.Post
 underflowed-node-join-requires t c κs = record { heal = c .before .before .before .before .before .pre .1; finds = c .before .before .right-sibling .ensures; there = c .before .if1 .taken }
 
--- src/lib.rt:273:13
+-- src/lib.rt:93:13
 underflowed-node-empty-node-requires : (t : ℕ) → underflowed-node-lts.Need-empty-node-requires (
   right-sibling-reads.Asked,
   right-sibling-reads.Learnt,
@@ -442,7 +442,7 @@ underflowed-node-empty-node-requires : (t : ℕ) → underflowed-node-lts.Need-e
 ) (underflowed-node-at t) underflowed-node.Post
 underflowed-node-empty-node-requires t c κs = (omega (arith, c .before .before .before .before .before .before .before .before .before .before .pre .0), CycleLaws.ask-merge innerKind inner-law (c .before .before .before .before .before .before .before .before .before .before .pre .1) (c .before .before .before .before .before .before .before .right-sibling .ensures) (c .before .before .before .before .before .before .if1 .taken) (c .before .before .before .before .join .ensures) (c .before .if2 .taken))
 
--- src/lib.rt:273:13
+-- src/lib.rt:93:13
 underflowed-node-same-length : (t : ℕ) → underflowed-node-lts.Need-same-length (
   right-sibling-reads.Asked,
   right-sibling-reads.Learnt,
@@ -455,7 +455,7 @@ underflowed-node-same-length : (t : ℕ) → underflowed-node-lts.Need-same-leng
 ) (underflowed-node-at t) underflowed-node.Post
 underflowed-node-same-length t c = search needs
 
--- src/lib.rt:273:13
+-- src/lib.rt:93:13
 underflowed-node-returns : (t : ℕ) → underflowed-node-lts.Need-returns (
   right-sibling-reads.Asked,
   right-sibling-reads.Learnt,
@@ -468,7 +468,7 @@ underflowed-node-returns : (t : ℕ) → underflowed-node-lts.Need-returns (
 ) (underflowed-node-at t) underflowed-node.Post
 underflowed-node-returns t c = CycleLaws.under-merge innerKind (c .before .before .before .before .before .before .before .before .before .before .right-sibling .ensures) (c .before .before .before .before .before .before .before .before .before .if1 .taken) (c .before .before .before .before .before .before .before .join .ensures) (c .before .before .before .before .if2 .taken) (c .before .before .empty-node .ensures)
 
--- src/lib.rt:275:9
+-- src/lib.rt:95:9
 underflowed-node-same-length-2 : (t : ℕ) → underflowed-node-lts.Need-same-length-2 (
   right-sibling-reads.Asked,
   right-sibling-reads.Learnt,
@@ -481,7 +481,7 @@ underflowed-node-same-length-2 : (t : ℕ) → underflowed-node-lts.Need-same-le
 ) (underflowed-node-at t) underflowed-node.Post
 underflowed-node-same-length-2 t c = search needs
 
--- src/lib.rt:275:9
+-- src/lib.rt:95:9
 underflowed-node-returns-2 : (t : ℕ) → underflowed-node-lts.Need-returns-2 (
   right-sibling-reads.Asked,
   right-sibling-reads.Learnt,
@@ -494,7 +494,7 @@ underflowed-node-returns-2 : (t : ℕ) → underflowed-node-lts.Need-returns-2 (
 ) (underflowed-node-at t) underflowed-node.Post
 underflowed-node-returns-2 t c = CycleLaws.under-share innerKind (c .before .before .before .before .before .before .right-sibling .ensures) (c .before .before .before .before .before .if1 .taken) (c .before .before .before .join .ensures) (c .if2 .left)
 
--- src/lib.rt:277:5
+-- src/lib.rt:97:5
 underflowed-node-no-right-requires : (t : ℕ) → underflowed-node-lts.Need-no-right-requires (
   right-sibling-reads.Asked,
   right-sibling-reads.Learnt,
@@ -507,7 +507,7 @@ underflowed-node-no-right-requires : (t : ℕ) → underflowed-node-lts.Need-no-
 ) (underflowed-node-at t) underflowed-node.Post
 underflowed-node-no-right-requires t c κs = c .before .before .before .before .before .pre .1
 
--- src/lib.rt:266:1
+-- src/lib.rt:86:1
 underflowed-node-same-length-3 : (t : ℕ) → underflowed-node-lts.Need-same-length-3 (
   right-sibling-reads.Asked,
   right-sibling-reads.Learnt,
@@ -520,7 +520,7 @@ underflowed-node-same-length-3 : (t : ℕ) → underflowed-node-lts.Need-same-le
 ) (underflowed-node-at t) underflowed-node.Post
 underflowed-node-same-length-3 t c = search needs
 
--- src/lib.rt:266:1
+-- src/lib.rt:86:1
 underflowed-node-returns-3 : (t : ℕ) → underflowed-node-lts.Need-returns-3 (
   right-sibling-reads.Asked,
   right-sibling-reads.Learnt,

@@ -1,72 +1,64 @@
-use Prim.Native.Nat.{_+_, _-_}
-use native.Mathlib.Omega.{arith}
-use mathlib.Core.Path.{refl}
-use Rattle.heal.proofs.JoinLaws
-use Rattle.heal.proofs.LeafLaws
+use Prim.Native.Nat.{_-_}
 use Rattle.heal.specs.Cycle.{leafKind}
+use Rattle.heal.proofs.LeafLaws
 use Rattle.heal.proofs.CycleLaws
 use borrow.Author.Needs.{needs}
 use Rattle.heal.proofs.heal_leaf.Statement.{statement}
 use Rattle.heal.proofs.heal_leaf.Tie as tie
-use Rattle.heal.proofs.heal_leaf.Reads as reads
-use Rattle.heal.proofs.heal_leaf.Lts as lts
-use Rattle.heal.proofs.empty_node.Reads as empty-node-reads
-use Rattle.heal.proofs.next_node.Reads as next-node-reads
-use Rattle.heal.proofs.underflowed_leaf.Reads as underflowed-leaf-reads
 
--- src/lib.rt:358:13
+-- src/lib.rt:178:13
 enum-told : tie.Need-enum-told
 enum-told c = search needs
 
--- src/lib.rt:358:13
+-- src/lib.rt:178:13
 returns : tie.Need-returns
 returns c = CycleLaws.heals-0 leafKind (c .enum-told .given .1)
 
--- src/lib.rt:361:30
+-- src/lib.rt:181:36
 enum-told-2 : tie.Need-enum-told-2
 enum-told-2 c = search needs
 
--- src/lib.rt:361:13
+-- src/lib.rt:181:13
 next-node-requires : tie.Need-next-node-requires
 next-node-requires c κs = CycleLaws.heal-way leafKind LeafLaws.leaf-law (c .before .before .before .before .pre)
 
--- src/lib.rt:361:13
+-- src/lib.rt:181:13
 same-length : tie.Need-same-length
 same-length c = search needs
 
--- src/lib.rt:361:13
+-- src/lib.rt:181:13
 returns-2 : tie.Need-returns-2
 returns-2 c = CycleLaws.heals-1 leafKind (c .before .before .enum-told2 .given .1) (c .next-node .ensures)
 
--- src/lib.rt:364:37
+-- src/lib.rt:184:37
 enum-told-3 : tie.Need-enum-told-3
 enum-told-3 c = search needs
 
--- src/lib.rt:364:13
+-- src/lib.rt:184:13
 underflowed-leaf-requires : tie.Need-underflowed-leaf-requires
 underflowed-leaf-requires c κs = CycleLaws.ask-under leafKind LeafLaws.leaf-law (c .before .before .before .before .pre) (c .before .enum-told3 .given .1)
 
--- src/lib.rt:364:13
+-- src/lib.rt:184:13
 same-length-2 : tie.Need-same-length-2
 same-length-2 c = search needs
 
--- src/lib.rt:364:13
+-- src/lib.rt:184:13
 returns-3 : tie.Need-returns-3
 returns-3 c = CycleLaws.heals-2 leafKind (c .before .before .before .before .enum-told3 .given .1) (c .before .before .underflowed-leaf .ensures)
 
--- src/lib.rt:367:31
+-- src/lib.rt:187:31
 enum-told-4 : tie.Need-enum-told-4
 enum-told-4 c = search needs
 
--- src/lib.rt:367:13
+-- src/lib.rt:187:13
 empty-node-requires : tie.Need-empty-node-requires
 empty-node-requires c κs = CycleLaws.ask-none leafKind LeafLaws.leaf-law (c .before .before .before .before .pre) (c .before .enum-told4 .given .1)
 
--- src/lib.rt:367:13
+-- src/lib.rt:187:13
 same-length-3 : tie.Need-same-length-3
 same-length-3 c = search needs
 
--- src/lib.rt:367:13
+-- src/lib.rt:187:13
 returns-4 : tie.Need-returns-4
 returns-4 c = CycleLaws.heals-3 leafKind (c .before .before .before .before .enum-told4 .given .1) (c .before .before .empty-node .ensures)
 

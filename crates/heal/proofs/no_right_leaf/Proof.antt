@@ -1,57 +1,55 @@
-use Prim.Native.Nat.{_+_, _-_}
+use Prim.Native.Nat.{_-_}
 use native.Mathlib.Omega.{arith}
 use mathlib.Core.Path.{refl}
+use Rattle.heal.specs.Cycle.{leafKind}
 use Rattle.heal.proofs.JoinLaws
 use Rattle.heal.proofs.LeafLaws
-use Rattle.heal.specs.Cycle.{leafKind}
 use borrow.Author.Needs.{needs}
 use Rattle.heal.proofs.no_right_leaf.Statement.{statement}
 use Rattle.heal.proofs.no_right_leaf.Tie as tie
-use Rattle.heal.proofs.no_right_leaf.Reads as reads
-use Rattle.heal.proofs.no_right_leaf.Lts as lts
 use Rattle.pool.proofs.load.Reads as load-reads
 
--- src/lib.rt:303:13
+-- src/lib.rt:123:13
 mul-n : tie.Need-mul-n
 mul-n c = omega (arith, c .before .pre .deep)
 
--- src/lib.rt:303:13
+-- src/lib.rt:123:13
 element-copy-out-n : tie.Need-element-copy-out-n
 element-copy-out-n c = omega (arith, c .before .pre .deep)
 
--- src/lib.rt:304:13
+-- src/lib.rt:124:13
 mul-p : tie.Need-mul-p
 mul-p c = omega (arith, c .before .before .pre .deep)
 
--- src/lib.rt:304:13
+-- src/lib.rt:124:13
 element-copy-out-p : tie.Need-element-copy-out-p
 element-copy-out-p c = omega (arith, c .before .before .pre .deep)
 
--- src/lib.rt:304:13
+-- src/lib.rt:124:13
 cast-p : tie.Need-cast-p
 cast-p c = search needs
 
--- src/lib.rt:305:13
+-- src/lib.rt:125:13
 load-requires : tie.Need-load-requires
-load-requires c κs = JoinLaws.here-placed leafKind LeafLaws.leaf-law LeafLaws.leaf-sixteen (c .before .before .before .pre)
+load-requires c κs = JoinLaws.here-placed leafKind LeafLaws.leaf-law LeafLaws.leaf-length (c .before .before .before .pre)
 
--- src/lib.rt:306:8
+-- src/lib.rt:126:8
 add-if1 : tie.Need-add-if1
-add-if1 c = omega (arith, JoinLaws.place-few leafKind LeafLaws.leaf-law LeafLaws.leaf-sixteen (c .before .before .before .before .pre))
+add-if1 c = omega (arith, JoinLaws.place-few leafKind LeafLaws.leaf-law LeafLaws.leaf-length (c .before .before .before .before .pre))
 
--- src/lib.rt:306:17
+-- src/lib.rt:126:17
 array-read-if1 : tie.Need-array-read-if1
 array-read-if1 c = search needs
 
--- src/lib.rt:306:17
+-- src/lib.rt:126:17
 cast-if1 : tie.Need-cast-if1
 cast-if1 c = search needs
 
--- src/lib.rt:307:9
+-- src/lib.rt:127:9
 returns : tie.Need-returns
 returns c = LeafLaws.small-on (c .before .before .before .before .before .pre) (c .before .load .result) (c .before .load .ensures) (c .if1 .taken)
 
--- src/lib.rt:299:1
+-- src/lib.rt:119:1
 returns-2 : tie.Need-returns-2
 returns-2 c = LeafLaws.small-off (c .before .before .before .before .before .pre) (c .before .load .result) (c .before .load .ensures) (c .if1 .left) refl refl refl refl
 

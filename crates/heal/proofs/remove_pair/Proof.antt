@@ -3,29 +3,24 @@ use Rattle.heal.proofs.LeafLaws
 use borrow.Author.Needs.{needs}
 use Rattle.heal.proofs.remove_pair.Statement.{statement}
 use Rattle.heal.proofs.remove_pair.Tie as tie
-use Rattle.heal.proofs.remove_pair.Reads as reads
-use Rattle.heal.proofs.remove_pair.Lts as lts
-use Rattle.heal.proofs.cut_leaf.Reads as cut-leaf-reads
-use Rattle.heal.proofs.heal_leaf.Reads as heal-leaf-reads
-use Rattle.heal.proofs.update_front.Reads as update-front-reads
 
--- src/lib.rt:407:9
+-- src/lib.rt:227:9
 cut-leaf-requires : tie.Need-cut-leaf-requires
 cut-leaf-requires c κs = search needs
 
--- src/lib.rt:408:5
+-- src/lib.rt:228:5
 update-front-requires : tie.Need-update-front-requires
 update-front-requires c κs = LeafLaws.front-asks (c .before .before .before .before .before .before .pre) (c .before .before .before .cut-leaf .ensures)
 
--- src/lib.rt:409:5
+-- src/lib.rt:229:5
 heal-leaf-requires : tie.Need-heal-leaf-requires
 heal-leaf-requires c κs = FrontLaws.ask-heal (c .before .before .before .before .before .before .before .before .before .before .pre) (c .before .before .before .before .before .before .before .cut-leaf .ensures) (c .before .before .before .update-front .ensures)
 
--- src/lib.rt:403:1
+-- src/lib.rt:223:1
 same-length : tie.Need-same-length
 same-length c = search needs
 
--- src/lib.rt:403:1
+-- src/lib.rt:223:1
 returns : tie.Need-returns
 returns c = FrontLaws.takes (c .before .before .before .before .before .before .before .before .before .before .before .before .before .pre) (c .before .before .before .before .before .before .before .before .before .before .cut-leaf .ensures) (c .before .before .before .before .before .before .update-front .ensures) (c .before .before .heal-leaf .ensures)
 

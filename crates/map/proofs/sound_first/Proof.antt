@@ -1,9 +1,10 @@
 use Rattle.forest.specs.Cursors.{leaves, first, to-first}
-use Rattle.path.proofs.Moving.{fits-start, gone-ready, gone-standing}
+use Rattle.path.proofs.Made.{gone-ready, gone-standing}
 use Rattle.map.proofs.Promising.{closed-moves, first-moves}
 use borrow.Author.Needs.{needs}
 use Rattle.map.proofs.sound_first.Statement.{statement}
 use Rattle.map.proofs.sound_first.Tie as tie
+use Rattle.forest.proofs.CursorCalls.{fits-start}
 
 gate-requires : tie.Need-gate-requires
 gate-requires c κs = search needs

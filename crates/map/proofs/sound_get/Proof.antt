@@ -1,6 +1,4 @@
 use Rattle.forest.specs.Pools.{get}
-use Rattle.forest.specs.Cursors.{seek}
-use Rattle.path.proofs.Moving.{fits-seek, gone-ready, gone-standing}
 use Rattle.map.proofs.Promising.{closed-calls, get-calls}
 use borrow.Author.Needs.{needs}
 use Rattle.map.proofs.sound_get.Statement.{statement}
@@ -15,15 +13,8 @@ enum-known-why c = search needs
 enum-known-t : tie.Need-enum-known-t
 enum-known-t c = search needs
 
-find-requires : tie.Need-find-requires
-find-requires c κs = c .before .before .before .gate .ensures .passes _ (cc)
-
-look-at-requires : tie.Need-look-at-requires
-look-at-requires c κs =
-    let start = c .before .before .before .before .before .before in
-    let a = start .args in
-    let y = c .before .before .before .before .gate .ensures .passes (c .before .before .t .given .0 .0) (cc) in
-    (gone-ready (seek (a .key)) (fits-seek (a .key)) (a .ws .now) _ (a .tree) _ y (c .find .ensures), gone-standing (seek (a .key)) (fits-seek (a .key)) (a .ws .now) _ (a .tree) _ y (c .find .ensures))
+look-for-requires : tie.Need-look-for-requires
+look-for-requires c κs = c .before .before .before .gate .ensures .passes _ (cc)
 
 held-requires : tie.Need-held-requires
 held-requires c κs = search needs
@@ -36,10 +27,11 @@ returns c =
 
 returns-2 : tie.Need-returns-2
 returns-2 c =
-    let start = c .before .before .before .before .before .before .before .before in
+    let start = c .before .before .before .before .before .before .before in
     let a = start .args in
-    let y = c .before .before .before .before .before .before .gate .ensures .passes (c .before .before .before .before .t .given .0 .0) (cc) in
-    get-calls (a .ws .now) _ (a .tree) (a .key) y _ _ _ (c .before .before .find .ensures) (c .before .look-at .ensures) (c .held .ensures)
+    let y = c .before .before .before .before .before .gate .ensures .passes (c .before .before .before .t .given .0 .0) (cc) in
+    let l = c .before .look-for .ensures in
+    get-calls (a .ws .now) _ (a .tree) (a .key) y _ _ _ (l .goes) (l .sees) (c .held .ensures)
 
 pub sound-get-spec : {M : Type 1} → statement M
 sound-get-spec =
@@ -48,8 +40,7 @@ sound-get-spec =
     gate-requires
     enum-known-why
     enum-known-t
-    find-requires
-    look-at-requires
+    look-for-requires
     held-requires
     returns
     returns-2)

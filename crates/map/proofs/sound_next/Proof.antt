@@ -1,9 +1,10 @@
 use Rattle.forest.specs.Cursors.{next}
-use Rattle.path.proofs.Moving.{fits-next, moved-ready, moved-standing}
+use Rattle.moves.proofs.Moving.{moved-ready, moved-standing}
 use Rattle.map.proofs.Gating.{some-words, stood-ready}
 use Rattle.map.proofs.Promising.{next-moves}
 use Rattle.map.proofs.sound_next.Statement.{statement}
 use Rattle.map.proofs.sound_next.Tie as tie
+use Rattle.forest.proofs.CursorCalls.{fits-next}
 
 tree-count-requires : tie.Need-tree-count-requires
 tree-count-requires c κs =

@@ -1,7 +1,7 @@
 use mathlib.Core.Path.{sym}
 use Rattle.forest.specs.Pools.{remove}
 use Rattle.forest.specs.Cursors.{seek}
-use Rattle.path.proofs.Moving.{fits-seek, gone-ready, gone-standing}
+use Rattle.path.proofs.Made.{fits-seek, gone-ready, gone-standing}
 use Rattle.map.proofs.Gating.{held-other}
 use Rattle.map.proofs.Promising.{closed-calls}
 use Rattle.map.proofs.Removing.{held-nothing, ask-found, removed-calls, absent-calls}

@@ -1,5 +1,5 @@
 use Rattle.forest.specs.Cursors.{seek, to-key}
-use Rattle.path.proofs.Moving.{fits-seek, gone-ready, gone-standing}
+use Rattle.path.proofs.Made.{fits-seek, gone-ready, gone-standing}
 use Rattle.map.proofs.Promising.{closed-moves, seek-moves}
 use borrow.Author.Needs.{needs}
 use Rattle.map.proofs.sound_seek.Statement.{statement}

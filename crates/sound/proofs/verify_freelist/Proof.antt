@@ -1,11 +1,14 @@
 use mathlib.Core.Path.{_≡_, refl, sym, _∙_}
+use mathlib.Core.Bool.{Bool, true, false, not}
 use Prim.Native.Nat.{_+_, _-_, _*_, _≤_}
 use native.Mathlib.Omega.{arith}
 use lib.ListN.{length, getD}
 use borrow.Author.Needs.{needs}
 use borrow.Author.Tests.{not-true, not-false}
 use Rattle.sound.specs.Checks.{frees}
-use Rattle.walk.proofs.WalkSteps.{Placed, placed}
+use Rattle.walk.specs.Walks.{meets}
+use Rattle.walk.proofs.Laws.{meets-none, meets-out, meets-in, has-read, mark-write}
+use Rattle.walk.proofs.WalkSteps.{placed}
 use Rattle.sound.proofs.CheckSteps.{frees-no, frees-full, frees-on, frees-end, frees-start}
 use Rattle.sound.proofs.verify_freelist.Statement.{statement}
 use Rattle.sound.proofs.verify_freelist.Tie as tie
@@ -16,6 +19,12 @@ Inv-loop ws t n f s all₀ i₀ all i = (i ≤ f) × (length all ≡ 8) × (free
 abbrev μ-loop : tie.MeasureT-loop
 μ-loop ws t n f s all₀ i₀ all i = f - i
 
+not-of : (b : Bool) → b ≡ true → not b ≡ false
+not-of b e = rw e
+
+of-not : (b : Bool) → b ≡ false → not b ≡ true
+of-not b e = rw e
+
 add-s : tie.Need-add-s Inv-loop μ-loop
 add-s c = omega (arith, c .before .pre .0 .long, c .before .pre .0 .few-trees, c .before .pre .0 .few-nodes, c .before .pre .1)
 
@@ -24,12 +33,6 @@ mul-s c = omega (arith, c .before .pre .0 .long, c .before .pre .0 .few-trees, c
 
 add-s-2 : tie.Need-add-s-2 Inv-loop μ-loop
 add-s-2 c = omega (arith, c .before .pre .0 .long, c .before .pre .0 .few-trees, c .before .pre .0 .few-nodes, c .before .pre .1)
-
--- the free number may be met, so its node has its place
-here : (c : tie.Else1 Inv-loop μ-loop) → Placed (c .before .before .before .before .before .before .args .ws .now) (c .before .before .before .before .before .before .args .t) (c .before .before .before .before .before .before .args .n) (getD (c .before .before .before .before .before .before .args .ws .now) (c .before .before .before .before .before .before .args .t + 3 + 16 * c .before .before .before .before .before .before .args .n + c .before .before .before .before .loop .i) 0)
-here c =
-    placed (c .before .before .before .before .before .before .args .ws .now) (c .before .before .before .before .before .before .args .t) (c .before .before .before .before .before .before .args .n) (c .before .before .before .before .loop .all) (getD (c .before .before .before .before .before .before .args .ws .now) (c .before .before .before .before .before .before .args .t + 3 + 16 * c .before .before .before .before .before .before .args .n + c .before .before .before .before .loop .i) 0) (c .before .before .before .before .before .before .pre .0)
-    (sym (c .before .may-meet .ensures) ∙ not-false (c .before .may-meet .result) (c .if1 .left))
 
 loop-holds : tie.Need-loop-holds Inv-loop μ-loop
 loop-holds c = (omega arith, search needs, refl)
@@ -43,38 +46,174 @@ mul-node c = omega (arith, c .before .before .before .pre .0 .long, c .before .b
 shared-slice-read-node : tie.Need-shared-slice-read-node Inv-loop μ-loop
 shared-slice-read-node c = omega (arith, c .before .before .before .before .pre .0 .long, c .before .before .before .before .pre .0 .few-trees, c .before .before .before .before .pre .0 .few-nodes, c .before .before .before .before .pre .1)
 
-may-meet-requires : tie.Need-may-meet-requires Inv-loop μ-loop
-may-meet-requires c κs = c .before .before .before .before .pre .0 .few-nodes
-
 no-requires : tie.Need-no-requires Inv-loop μ-loop
 no-requires c κs = search needs
 
 returns : tie.Need-returns Inv-loop μ-loop
-returns c = c .no .ensures ∙ frees-no (c .before .before .before .before .before .before .before .args .ws .now) (c .before .before .before .before .before .before .before .args .t) (c .before .before .before .before .before .before .before .args .n) (c .before .before .before .before .before .before .before .args .f) (c .before .before .before .before .before .loop .i) (c .before .before .before .before .before .loop .all) (c .before .before .before .before .before .before .before .args .t + 3 + 16 * c .before .before .before .before .before .before .before .args .n) (c .before .before .before .before .loop-test .taken) (sym (c .before .before .may-meet .ensures) ∙ not-true (c .before .before .may-meet .result) (c .before .if1 .taken)) ∙ sym (c .before .before .before .before .before .loop .inv .2) ∙ frees-start (c .before .before .before .before .before .before .before .args .ws .now) (c .before .before .before .before .before .before .before .args .t) (c .before .before .before .before .before .before .before .args .n) (c .before .before .before .before .before .before .before .args .f) (c .before .before .before .before .before .before .before .args .t + 3 + 16 * c .before .before .before .before .before .before .before .args .n) (c .before .before .before .before .before .before .before .args .marks)
-
-cast-b : tie.Need-cast-b Inv-loop μ-loop
-cast-b c = omega (arith, here c)
-
-mul-b : tie.Need-mul-b Inv-loop μ-loop
-mul-b c = omega (arith, here c)
-
-add-b : tie.Need-add-b Inv-loop μ-loop
-add-b c = omega (arith, here c)
-
-sub-b : tie.Need-sub-b Inv-loop μ-loop
-sub-b c = omega (arith, here c)
-
-are-zero-requires : tie.Need-are-zero-requires Inv-loop μ-loop
-are-zero-requires c κs = omega (arith, here c)
+returns c =
+    let m = c .before .before .before .before .loop in
+    let a = c .before .before .before .before .before .before .args in
+    let pre = c .before .before .before .before .before .before .pre in
+    c .no .ensures ∙ frees-no (a .ws .now) (a .t) (a .n) (a .f) (m .i) (m .all) (a .t + 3 + 16 * a .n) (c .before .before .before .loop-test .taken) (sym (meets-none (a .n) (m .all) (getD (a .ws .now) (a .t + 3 + 16 * a .n + m .i) 0) (c .before .if1 .taken))) ∙ sym (m .inv .2) ∙ frees-start (a .ws .now) (a .t) (a .n) (a .f) (a .t + 3 + 16 * a .n) (a .marks)
 
 no-requires-2 : tie.Need-no-requires-2 Inv-loop μ-loop
 no-requires-2 c κs = search needs
 
 returns-2 : tie.Need-returns-2 Inv-loop μ-loop
-returns-2 c = c .no2 .ensures ∙ frees-full (c .before .before .before .before .before .before .before .before .before .args .ws .now) (c .before .before .before .before .before .before .before .before .before .args .t) (c .before .before .before .before .before .before .before .before .before .args .n) (c .before .before .before .before .before .before .before .before .before .args .f) (c .before .before .before .before .before .before .before .loop .i) (c .before .before .before .before .before .before .before .loop .all) (c .before .before .before .before .before .before .before .before .before .args .t + 3 + 16 * c .before .before .before .before .before .before .before .before .before .args .n) (c .before .before .before .before .before .before .loop-test .taken) (sym (c .before .before .before .before .may-meet .ensures) ∙ not-false (c .before .before .before .before .may-meet .result) (c .before .before .before .if1 .left)) (sym (c .before .before .are-zero .ensures) ∙ not-true (c .before .before .are-zero .result) (c .before .if2 .taken)) ∙ sym (c .before .before .before .before .before .before .before .loop .inv .2) ∙ frees-start (c .before .before .before .before .before .before .before .before .before .args .ws .now) (c .before .before .before .before .before .before .before .before .before .args .t) (c .before .before .before .before .before .before .before .before .before .args .n) (c .before .before .before .before .before .before .before .before .before .args .f) (c .before .before .before .before .before .before .before .before .before .args .t + 3 + 16 * c .before .before .before .before .before .before .before .before .before .args .n) (c .before .before .before .before .before .before .before .before .before .args .marks)
+returns-2 c =
+    let m = c .before .before .before .before .before .loop in
+    let a = c .before .before .before .before .before .before .before .args in
+    let pre = c .before .before .before .before .before .before .before .pre in
+    c .no2 .ensures ∙ frees-no (a .ws .now) (a .t) (a .n) (a .f) (m .i) (m .all) (a .t + 3 + 16 * a .n) (c .before .before .before .before .loop-test .taken) (sym (meets-out (a .n) (m .all) (getD (a .ws .now) (a .t + 3 + 16 * a .n + m .i) 0) (c .before .if2 .taken))) ∙ sym (m .inv .2) ∙ frees-start (a .ws .now) (a .t) (a .n) (a .f) (a .t + 3 + 16 * a .n) (a .marks)
 
-set-mark-requires : tie.Need-set-mark-requires Inv-loop μ-loop
-set-mark-requires c κs = let z = here (c .before .before) in (z .some, z .most)
+sub-j : tie.Need-sub-j Inv-loop μ-loop
+sub-j c =
+    let m = c .before .before .before .before .loop in
+    let a = c .before .before .before .before .before .before .args in
+    let pre = c .before .before .before .before .before .before .pre in
+    let few = pre .0 .few-nodes in
+    omega (arith, few, c .before .if1 .left, c .if2 .left, m .inv .1)
+
+cast-j : tie.Need-cast-j Inv-loop μ-loop
+cast-j c =
+    let m = c .before .before .before .before .loop in
+    let a = c .before .before .before .before .before .before .args in
+    let pre = c .before .before .before .before .before .before .pre in
+    let few = pre .0 .few-nodes in
+    omega (arith, few, c .before .if1 .left, c .if2 .left, m .inv .1)
+
+mul-w : tie.Need-mul-w Inv-loop μ-loop
+mul-w c =
+    let m = c .before .before .before .before .loop in
+    let a = c .before .before .before .before .before .before .args in
+    let pre = c .before .before .before .before .before .before .pre in
+    let few = pre .0 .few-nodes in
+    omega (arith, few, c .before .if1 .left, c .if2 .left, m .inv .1)
+
+array-read-w : tie.Need-array-read-w Inv-loop μ-loop
+array-read-w c =
+    let m = c .before .before .before .before .loop in
+    let a = c .before .before .before .before .before .before .args in
+    let pre = c .before .before .before .before .before .before .pre in
+    let few = pre .0 .few-nodes in
+    omega (arith, few, c .before .if1 .left, c .if2 .left, m .inv .1)
+
+has-bit-requires : tie.Need-has-bit-requires Inv-loop μ-loop
+has-bit-requires c κs =
+    let m = c .before .before .before .before .loop in
+    let a = c .before .before .before .before .before .before .args in
+    let pre = c .before .before .before .before .before .before .pre in
+    omega arith
+
+no-requires-3 : tie.Need-no-requires-3 Inv-loop μ-loop
+no-requires-3 c κs = search needs
+
+returns-3 : tie.Need-returns-3 Inv-loop μ-loop
+returns-3 c =
+    let m = c .before .before .before .before .before .before .before .loop in
+    let a = c .before .before .before .before .before .before .before .before .before .args in
+    let pre = c .before .before .before .before .before .before .before .before .before .pre in
+    let h = has-read (m .all) (getD (a .ws .now) (a .t + 3 + 16 * a .n + m .i) 0) _ (omega (arith, c .before .before .before .before .if1 .left)) (c .before .before .has-bit .ensures) in
+    let y = sym (meets-in (a .n) (m .all) (getD (a .ws .now) (a .t + 3 + 16 * a .n + m .i) 0) (c .before .before .has-bit .result) (c .before .before .before .before .if1 .left) (c .before .before .before .if2 .left) h) in
+    c .no3 .ensures ∙ frees-no (a .ws .now) (a .t) (a .n) (a .f) (m .i) (m .all) (a .t + 3 + 16 * a .n) (c .before .before .before .before .before .before .loop-test .taken) (y ∙ not-of (c .before .before .has-bit .result) (c .before .if3 .taken)) ∙ sym (m .inv .2) ∙ frees-start (a .ws .now) (a .t) (a .n) (a .f) (a .t + 3 + 16 * a .n) (a .marks)
+
+cast-b : tie.Need-cast-b Inv-loop μ-loop
+cast-b c =
+    let m = c .before .before .before .before .before .before .loop in
+    let a = c .before .before .before .before .before .before .before .before .args in
+    let pre = c .before .before .before .before .before .before .before .before .pre in
+    let h = has-read (m .all) (getD (a .ws .now) (a .t + 3 + 16 * a .n + m .i) 0) _ (omega (arith, c .before .before .before .if1 .left)) (c .before .has-bit .ensures) in
+    let y = sym (meets-in (a .n) (m .all) (getD (a .ws .now) (a .t + 3 + 16 * a .n + m .i) 0) (c .before .has-bit .result) (c .before .before .before .if1 .left) (c .before .before .if2 .left) h) in
+    let seen : meets (a .n) (m .all) (getD (a .ws .now) (a .t + 3 + 16 * a .n + m .i) 0) ≡ true = y ∙ of-not (c .before .has-bit .result) (c .if3 .left) in
+    let here = placed (a .ws .now) (a .t) (a .n) (m .all) (getD (a .ws .now) (a .t + 3 + 16 * a .n + m .i) 0) (pre .0) seen in
+    omega (arith, here)
+
+mul-b : tie.Need-mul-b Inv-loop μ-loop
+mul-b c =
+    let m = c .before .before .before .before .before .before .loop in
+    let a = c .before .before .before .before .before .before .before .before .args in
+    let pre = c .before .before .before .before .before .before .before .before .pre in
+    let h = has-read (m .all) (getD (a .ws .now) (a .t + 3 + 16 * a .n + m .i) 0) _ (omega (arith, c .before .before .before .if1 .left)) (c .before .has-bit .ensures) in
+    let y = sym (meets-in (a .n) (m .all) (getD (a .ws .now) (a .t + 3 + 16 * a .n + m .i) 0) (c .before .has-bit .result) (c .before .before .before .if1 .left) (c .before .before .if2 .left) h) in
+    let seen : meets (a .n) (m .all) (getD (a .ws .now) (a .t + 3 + 16 * a .n + m .i) 0) ≡ true = y ∙ of-not (c .before .has-bit .result) (c .if3 .left) in
+    let here = placed (a .ws .now) (a .t) (a .n) (m .all) (getD (a .ws .now) (a .t + 3 + 16 * a .n + m .i) 0) (pre .0) seen in
+    omega (arith, here)
+
+add-b : tie.Need-add-b Inv-loop μ-loop
+add-b c =
+    let m = c .before .before .before .before .before .before .loop in
+    let a = c .before .before .before .before .before .before .before .before .args in
+    let pre = c .before .before .before .before .before .before .before .before .pre in
+    let h = has-read (m .all) (getD (a .ws .now) (a .t + 3 + 16 * a .n + m .i) 0) _ (omega (arith, c .before .before .before .if1 .left)) (c .before .has-bit .ensures) in
+    let y = sym (meets-in (a .n) (m .all) (getD (a .ws .now) (a .t + 3 + 16 * a .n + m .i) 0) (c .before .has-bit .result) (c .before .before .before .if1 .left) (c .before .before .if2 .left) h) in
+    let seen : meets (a .n) (m .all) (getD (a .ws .now) (a .t + 3 + 16 * a .n + m .i) 0) ≡ true = y ∙ of-not (c .before .has-bit .result) (c .if3 .left) in
+    let here = placed (a .ws .now) (a .t) (a .n) (m .all) (getD (a .ws .now) (a .t + 3 + 16 * a .n + m .i) 0) (pre .0) seen in
+    omega (arith, here)
+
+sub-b : tie.Need-sub-b Inv-loop μ-loop
+sub-b c =
+    let m = c .before .before .before .before .before .before .loop in
+    let a = c .before .before .before .before .before .before .before .before .args in
+    let pre = c .before .before .before .before .before .before .before .before .pre in
+    let h = has-read (m .all) (getD (a .ws .now) (a .t + 3 + 16 * a .n + m .i) 0) _ (omega (arith, c .before .before .before .if1 .left)) (c .before .has-bit .ensures) in
+    let y = sym (meets-in (a .n) (m .all) (getD (a .ws .now) (a .t + 3 + 16 * a .n + m .i) 0) (c .before .has-bit .result) (c .before .before .before .if1 .left) (c .before .before .if2 .left) h) in
+    let seen : meets (a .n) (m .all) (getD (a .ws .now) (a .t + 3 + 16 * a .n + m .i) 0) ≡ true = y ∙ of-not (c .before .has-bit .result) (c .if3 .left) in
+    let here = placed (a .ws .now) (a .t) (a .n) (m .all) (getD (a .ws .now) (a .t + 3 + 16 * a .n + m .i) 0) (pre .0) seen in
+    omega (arith, here)
+
+are-zero-requires : tie.Need-are-zero-requires Inv-loop μ-loop
+are-zero-requires c κs =
+    let m = c .before .before .before .before .before .before .loop in
+    let a = c .before .before .before .before .before .before .before .before .args in
+    let pre = c .before .before .before .before .before .before .before .before .pre in
+    let h = has-read (m .all) (getD (a .ws .now) (a .t + 3 + 16 * a .n + m .i) 0) _ (omega (arith, c .before .before .before .if1 .left)) (c .before .has-bit .ensures) in
+    let y = sym (meets-in (a .n) (m .all) (getD (a .ws .now) (a .t + 3 + 16 * a .n + m .i) 0) (c .before .has-bit .result) (c .before .before .before .if1 .left) (c .before .before .if2 .left) h) in
+    let seen : meets (a .n) (m .all) (getD (a .ws .now) (a .t + 3 + 16 * a .n + m .i) 0) ≡ true = y ∙ of-not (c .before .has-bit .result) (c .if3 .left) in
+    let here = placed (a .ws .now) (a .t) (a .n) (m .all) (getD (a .ws .now) (a .t + 3 + 16 * a .n + m .i) 0) (pre .0) seen in
+    omega (arith, here)
+
+no-requires-4 : tie.Need-no-requires-4 Inv-loop μ-loop
+no-requires-4 c κs = search needs
+
+returns-4 : tie.Need-returns-4 Inv-loop μ-loop
+returns-4 c =
+    let m = c .before .before .before .before .before .before .before .before .before .loop in
+    let a = c .before .before .before .before .before .before .before .before .before .before .before .args in
+    let pre = c .before .before .before .before .before .before .before .before .before .before .before .pre in
+    let h = has-read (m .all) (getD (a .ws .now) (a .t + 3 + 16 * a .n + m .i) 0) _ (omega (arith, c .before .before .before .before .before .before .if1 .left)) (c .before .before .before .before .has-bit .ensures) in
+    let y = sym (meets-in (a .n) (m .all) (getD (a .ws .now) (a .t + 3 + 16 * a .n + m .i) 0) (c .before .before .before .before .has-bit .result) (c .before .before .before .before .before .before .if1 .left) (c .before .before .before .before .before .if2 .left) h) in
+    let seen : meets (a .n) (m .all) (getD (a .ws .now) (a .t + 3 + 16 * a .n + m .i) 0) ≡ true = y ∙ of-not (c .before .before .before .before .has-bit .result) (c .before .before .before .if3 .left) in
+    let here = placed (a .ws .now) (a .t) (a .n) (m .all) (getD (a .ws .now) (a .t + 3 + 16 * a .n + m .i) 0) (pre .0) seen in
+    c .no4 .ensures ∙ frees-full (a .ws .now) (a .t) (a .n) (a .f) (m .i) (m .all) (a .t + 3 + 16 * a .n) (c .before .before .before .before .before .before .before .before .loop-test .taken) seen (sym (c .before .before .are-zero .ensures) ∙ not-true (c .before .before .are-zero .result) (c .before .if4 .taken)) ∙ sym (m .inv .2) ∙ frees-start (a .ws .now) (a .t) (a .n) (a .f) (a .t + 3 + 16 * a .n) (a .marks)
+
+with-bit-requires : tie.Need-with-bit-requires Inv-loop μ-loop
+with-bit-requires c κs =
+    let m = c .before .before .before .before .before .before .before .before .loop in
+    let a = c .before .before .before .before .before .before .before .before .before .before .args in
+    let pre = c .before .before .before .before .before .before .before .before .before .before .pre in
+    omega arith
+
+mul-all : tie.Need-mul-all Inv-loop μ-loop
+mul-all c =
+    let m = c .before .before .before .before .before .before .before .before .before .loop in
+    let a = c .before .before .before .before .before .before .before .before .before .before .before .args in
+    let pre = c .before .before .before .before .before .before .before .before .before .before .before .pre in
+    let h = has-read (m .all) (getD (a .ws .now) (a .t + 3 + 16 * a .n + m .i) 0) _ (omega (arith, c .before .before .before .before .before .before .if1 .left)) (c .before .before .before .before .has-bit .ensures) in
+    let y = sym (meets-in (a .n) (m .all) (getD (a .ws .now) (a .t + 3 + 16 * a .n + m .i) 0) (c .before .before .before .before .has-bit .result) (c .before .before .before .before .before .before .if1 .left) (c .before .before .before .before .before .if2 .left) h) in
+    let seen : meets (a .n) (m .all) (getD (a .ws .now) (a .t + 3 + 16 * a .n + m .i) 0) ≡ true = y ∙ of-not (c .before .before .before .before .has-bit .result) (c .before .before .before .if3 .left) in
+    let here = placed (a .ws .now) (a .t) (a .n) (m .all) (getD (a .ws .now) (a .t + 3 + 16 * a .n + m .i) 0) (pre .0) seen in
+    omega (arith, here, m .inv .1)
+
+array-write-all : tie.Need-array-write-all Inv-loop μ-loop
+array-write-all c =
+    let m = c .before .before .before .before .before .before .before .before .before .loop in
+    let a = c .before .before .before .before .before .before .before .before .before .before .before .args in
+    let pre = c .before .before .before .before .before .before .before .before .before .before .before .pre in
+    let h = has-read (m .all) (getD (a .ws .now) (a .t + 3 + 16 * a .n + m .i) 0) _ (omega (arith, c .before .before .before .before .before .before .if1 .left)) (c .before .before .before .before .has-bit .ensures) in
+    let y = sym (meets-in (a .n) (m .all) (getD (a .ws .now) (a .t + 3 + 16 * a .n + m .i) 0) (c .before .before .before .before .has-bit .result) (c .before .before .before .before .before .before .if1 .left) (c .before .before .before .before .before .if2 .left) h) in
+    let seen : meets (a .n) (m .all) (getD (a .ws .now) (a .t + 3 + 16 * a .n + m .i) 0) ≡ true = y ∙ of-not (c .before .before .before .before .has-bit .result) (c .before .before .before .if3 .left) in
+    let here = placed (a .ws .now) (a .t) (a .n) (m .all) (getD (a .ws .now) (a .t + 3 + 16 * a .n + m .i) 0) (pre .0) seen in
+    omega (arith, here, m .inv .1)
 
 add-i : tie.Need-add-i Inv-loop μ-loop
 add-i c = omega arith
@@ -83,10 +222,18 @@ loop-less : tie.Need-loop-less Inv-loop μ-loop
 loop-less c = omega arith
 
 loop-again : tie.Need-loop-again Inv-loop μ-loop
-loop-again c = (omega arith, search needs, c .before .before .before .before .before .before .before .loop .inv .2 ∙ frees-on (c .before .before .before .before .before .before .before .before .before .args .ws .now) (c .before .before .before .before .before .before .before .before .before .args .t) (c .before .before .before .before .before .before .before .before .before .args .n) (c .before .before .before .before .before .before .before .before .before .args .f) (c .before .before .before .before .before .before .before .loop .i) (c .before .before .before .before .before .before .before .loop .all) (c .before .before .before .before .before .before .before .before .before .args .t + 3 + 16 * c .before .before .before .before .before .before .before .before .before .args .n) (c .before .before .before .before .before .before .loop-test .taken) (sym (c .before .before .before .before .may-meet .ensures) ∙ not-false (c .before .before .before .before .may-meet .result) (c .before .before .before .if1 .left)) (sym (c .before .before .are-zero .ensures) ∙ not-false (c .before .before .are-zero .result) (c .before .if2 .left)) _ (c .set-mark .ensures))
+loop-again c =
+    let m = c .before .before .before .before .before .before .before .before .before .loop in
+    let a = c .before .before .before .before .before .before .before .before .before .before .before .args in
+    let pre = c .before .before .before .before .before .before .before .before .before .before .before .pre in
+    let h = has-read (m .all) (getD (a .ws .now) (a .t + 3 + 16 * a .n + m .i) 0) _ (omega (arith, c .before .before .before .before .before .before .if1 .left)) (c .before .before .before .before .has-bit .ensures) in
+    let y = sym (meets-in (a .n) (m .all) (getD (a .ws .now) (a .t + 3 + 16 * a .n + m .i) 0) (c .before .before .before .before .has-bit .result) (c .before .before .before .before .before .before .if1 .left) (c .before .before .before .before .before .if2 .left) h) in
+    let seen : meets (a .n) (m .all) (getD (a .ws .now) (a .t + 3 + 16 * a .n + m .i) 0) ≡ true = y ∙ of-not (c .before .before .before .before .has-bit .result) (c .before .before .before .if3 .left) in
+    let here = placed (a .ws .now) (a .t) (a .n) (m .all) (getD (a .ws .now) (a .t + 3 + 16 * a .n + m .i) 0) (pre .0) seen in
+    (omega arith, search needs, m .inv .2 ∙ frees-on (a .ws .now) (a .t) (a .n) (a .f) (m .i) (m .all) (a .t + 3 + 16 * a .n) (c .before .before .before .before .before .before .before .before .loop-test .taken) seen (sym (c .before .before .are-zero .ensures) ∙ not-false (c .before .before .are-zero .result) (c .before .if4 .left)) _ (mark-write (m .all) (getD (a .ws .now) (a .t + 3 + 16 * a .n + m .i) 0) _ (here .some) (c .with-bit .ensures)))
 
-returns-3 : tie.Need-returns-3 Inv-loop μ-loop
-returns-3 c = sym (frees-end (c .before .before .before .args .ws .now) (c .before .before .before .args .t) (c .before .before .before .args .n) (c .before .before .before .args .f) (c .before .loop .i) (c .before .loop .all) (c .before .before .before .args .t + 3 + 16 * c .before .before .before .args .n) (c .loop-test .left)) ∙ sym (c .before .loop .inv .2) ∙ frees-start (c .before .before .before .args .ws .now) (c .before .before .before .args .t) (c .before .before .before .args .n) (c .before .before .before .args .f) (c .before .before .before .args .t + 3 + 16 * c .before .before .before .args .n) (c .before .before .before .args .marks)
+returns-5 : tie.Need-returns-5 Inv-loop μ-loop
+returns-5 c = sym (frees-end (c .before .before .before .args .ws .now) (c .before .before .before .args .t) (c .before .before .before .args .n) (c .before .before .before .args .f) (c .before .loop .i) (c .before .loop .all) (c .before .before .before .args .t + 3 + 16 * c .before .before .before .args .n) (c .loop-test .left)) ∙ sym (c .before .loop .inv .2) ∙ frees-start (c .before .before .before .args .ws .now) (c .before .before .before .args .t) (c .before .before .before .args .n) (c .before .before .before .args .f) (c .before .before .before .args .t + 3 + 16 * c .before .before .before .args .n) (c .before .before .before .args .marks)
 
 pub verify-freelist-spec : {M : Type 1} → statement M
 verify-freelist-spec =
@@ -101,18 +248,28 @@ verify-freelist-spec =
     add-node
     mul-node
     shared-slice-read-node
-    may-meet-requires
     no-requires
     returns
+    no-requires-2
+    returns-2
+    sub-j
+    cast-j
+    mul-w
+    array-read-w
+    has-bit-requires
+    no-requires-3
+    returns-3
     cast-b
     mul-b
     add-b
     sub-b
     are-zero-requires
-    no-requires-2
-    returns-2
-    set-mark-requires
+    no-requires-4
+    returns-4
+    with-bit-requires
+    mul-all
+    array-write-all
     add-i
     loop-less
     loop-again
-    returns-3)
+    returns-5)

@@ -1,8 +1,6 @@
 use mathlib.Core.Path.{_≡_, refl}
-use mathlib.Core.Logic.{⊎-elim}
-use Prim.Native.Nat.{_≤_, _-_}
+use Prim.Native.Nat.{_-_}
 use native.Mathlib.Omega.{arith}
-use borrow.Author.Needs.{needs}
 use lib.ListN.{length, length-set}
 use Rattle.pool_table.proofs.pools.six_levels.Statement.{statement}
 use Rattle.pool_table.proofs.pools.six_levels.Tie as tie

@@ -1,0 +1,10 @@
+pub mod HealRows
+pub mod HealStack
+pub mod HealMem
+pub mod HealPath
+pub mod HealNext
+pub mod SpeltLaws
+pub mod WayLaws
+pub mod RightLaws
+pub mod LeftLaws
+pub mod NextLaws

@@ -1,0 +1,184 @@
+// The keys above a node and its right sibling, as the crate's path.rs has them: what healing reads and changes along the path.
+ghost use Prim.Native.Nat.{_<_};
+ghost use Rattle.crit.specs.States.{stored, rightSet, leftSet, handKey, nextPath, nextNode};
+ghost use Rattle.crit.specs.Asks.{Way, Goes, Leaves, Finds, Crits, Settles};
+use forest::Cursor;
+
+// What may stand to the right of a node: the key before it, and its number.
+pub struct Near {
+    pub there: bool,
+    pub key: u32,
+    pub node: u32,
+}
+
+// The key before a node, which the leftmost of a level has not.
+pub struct Crit {
+    pub there: bool,
+    pub key: u32,
+}
+
+// The right sibling of the node at a level, even under another parent, and the key between them.
+pub fn right_sibling(ws: &[u32], t: usize, c: Cursor, level: usize) -> Near
+    requires { ⌜ Way (now ws) t c level ⌝ }
+    ensures { λ r. ⌜ Finds (now (ws .entry)) t c level r ⌝ }
+{
+    if level == 0 {
+        return Near {
+            there: false,
+            key: 0,
+            node: 0,
+        };
+    }
+    let l = level - 1;
+    let n = c.nodes[l];
+    let p = c.places[l] as usize;
+    let w = pool::load(ws, t, n);
+    if p + 16 < w[0] as usize {
+        return Near {
+            there: true,
+            key: w[1 + p],
+            node: w[9 + p],
+        };
+    }
+    let above = right_sibling(ws, t, c, l);
+    if above.there {
+        let v = pool::load(ws, t, above.node);
+        return Near {
+            there: true,
+            key: above.key,
+            node: v[8],
+        };
+    }
+    above
+}
+
+// The key before the right sibling of the node at a level becomes `key`.
+pub fn update_right_crit_key(ws: &mut [u32], t: usize, c: Cursor, level: usize, key: u32)
+    requires { ⌜ Way (now ws) t c level ⌝ }
+    ensures { λ _. ⌜ Leaves (λ s. stored s (rightSet (s .st) (s .ns) (s .ps) level key)) (now (ws .entry)) (now (ws .exit)) t c c ⌝ }
+{
+    if level == 0 {
+        return;
+    }
+    let l = level - 1;
+    let n = c.nodes[l];
+    let p = c.places[l] as usize;
+    let mut w = pool::load(ws, t, n);
+    if p + 16 < w[0] as usize {
+        w[1 + p] = key;
+        pool::store(ws, t, n, w);
+        return;
+    }
+    update_right_crit_key(ws, t, c, l, key);
+}
+
+// The key before the node at a level.
+fn current_crit_key(ws: &[u32], t: usize, c: Cursor, level: usize) -> Crit
+    requires { ⌜ Way (now ws) t c level ⌝ }
+    ensures { λ r. ⌜ Crits (now (ws .entry)) t c level r ⌝ }
+{
+    if level == 0 {
+        return Crit {
+            there: false,
+            key: 0,
+        };
+    }
+    let l = level - 1;
+    let p = c.places[l] as usize;
+    if p == 0 {
+        return current_crit_key(ws, t, c, l);
+    }
+    let n = c.nodes[l];
+    let w = pool::load(ws, t, n);
+    Crit {
+        there: true,
+        key: w[p],
+    }
+}
+
+// The key before the node at a level becomes `key`.
+pub fn update_crit_key(ws: &mut [u32], t: usize, c: Cursor, level: usize, key: u32)
+    requires { ⌜ Way (now ws) t c level ⌝ }
+    ensures { λ _. ⌜ Leaves (λ s. stored s (leftSet (s .st) (s .ns) (s .ps) level key)) (now (ws .entry)) (now (ws .exit)) t c c ⌝ }
+{
+    if level == 0 {
+        return;
+    }
+    let l = level - 1;
+    let p = c.places[l] as usize;
+    if p == 0 {
+        update_crit_key(ws, t, c, l, key);
+        return;
+    }
+    let n = c.nodes[l];
+    let mut w = pool::load(ws, t, n);
+    w[p] = key;
+    pool::store(ws, t, n, w);
+}
+
+// The key before the node at a level becomes that before its right sibling.
+pub fn hand_crit_key(ws: &mut [u32], t: usize, c: Cursor, level: usize)
+    requires { ⌜ Way (now ws) t c level ⌝ }
+    ensures { λ _. ⌜ Leaves (λ s. stored s (handKey (s .st) (s .ns) (s .ps) level)) (now (ws .entry)) (now (ws .exit)) t c c ⌝ }
+{
+    let crit = current_crit_key(ws, t, c, level);
+    if crit.there {
+        update_right_crit_key(ws, t, c, level, crit.key);
+    }
+}
+
+// The path to the right sibling of the node at a level.
+fn next_path(ws: &[u32], t: usize, c: Cursor, level: usize) -> Cursor
+    requires { ⌜ Goes (now ws) t c level ⌝ }
+    ensures { λ r. ⌜ Leaves (nextPath level) (now (ws .entry)) (now (ws .entry)) t c r ⌝ }
+{
+    if level == 0 {
+        return c;
+    }
+    let l = level - 1;
+    let n = c.nodes[l];
+    let p = c.places[l];
+    let w = pool::load(ws, t, n);
+    if p + 16 < w[0] {
+        let mut d = c;
+        d.nodes[level] = w[9 + p as usize];
+        d.places[l] = p + 1;
+        return d;
+    }
+    let mut d = next_path(ws, t, c, l);
+    let q = d.nodes[l];
+    let v = pool::load(ws, t, q);
+    d.nodes[level] = v[8];
+    d.places[l] = 0;
+    d
+}
+
+// Moves to the first entry of the next node at a level; off the end if there is none.
+pub fn next_node(ws: &[u32], t: usize, c: Cursor, level: usize) -> Cursor
+    requires { ⌜ Way (now ws) t c level ⌝ }
+    ensures { λ r. ⌜ Leaves (nextNode level) (now (ws .entry)) (now (ws .entry)) t c r ⌝ }
+{
+    let near = right_sibling(ws, t, c, level);
+    if near.there {
+        let mut d = next_path(ws, t, c, level);
+        d.places[level] = 0;
+        return d;
+    }
+    let mut d = c;
+    d.size = 0;
+    d
+}
+
+// The path at a level goes through the right sibling of the node that went; off the end if there is none.
+pub fn settle(c: Cursor, level: usize, near: Near) -> Cursor
+    requires { ⌜ level < 16 ⌝ }
+    ensures { λ r. ⌜ Settles c r level near ⌝ }
+{
+    let mut d = c;
+    if near.there {
+        d.nodes[level] = near.node;
+    } else {
+        d.size = 0;
+    }
+    d
+}

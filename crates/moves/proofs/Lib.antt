@@ -1,0 +1,4 @@
+pub mod Sideways
+pub mod Neighbours
+pub mod Moving
+pub mod Looking

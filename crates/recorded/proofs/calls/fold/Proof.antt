@@ -1,0 +1,51 @@
+-- `recorded::calls::fold` is safe and ends. Assumes nothing.
+use Prim.Native.Nat.{_≤_, _-_}
+use lib.ListN.{length}
+use borrow.Author.Needs.{needs}
+use Rattle.recorded.proofs.calls.fold.Statement.{statement}
+use Rattle.recorded.proofs.calls.fold.Tie as tie
+
+abbrev Inv-loop : tie.InvT-loop
+Inv-loop ws h₀ i₀ h i = i ≤ length ws
+
+abbrev μ-loop : tie.MeasureT-loop
+μ-loop ws h₀ i₀ h i = length ws - i
+
+loop-holds : tie.Need-loop-holds Inv-loop μ-loop
+loop-holds c = search needs
+
+mul-mixed : tie.Need-mul-mixed Inv-loop μ-loop
+mul-mixed c = search needs
+
+shared-slice-read-mixed : tie.Need-shared-slice-read-mixed Inv-loop μ-loop
+shared-slice-read-mixed c = search needs
+
+mixed-requires : tie.Need-mixed-requires Inv-loop μ-loop
+mixed-requires c κs = search needs
+
+add-i : tie.Need-add-i Inv-loop μ-loop
+add-i c = search needs
+
+loop-less : tie.Need-loop-less Inv-loop μ-loop
+loop-less c = search needs
+
+loop-again : tie.Need-loop-again Inv-loop μ-loop
+loop-again c = search needs
+
+returns : tie.Need-returns Inv-loop μ-loop
+returns c = search needs
+
+pub fold-spec : {M : Type 1} → statement M
+fold-spec =
+    tie.close
+    (tie.spec
+    Inv-loop
+    μ-loop
+    loop-holds
+    mul-mixed
+    shared-slice-read-mixed
+    mixed-requires
+    add-i
+    loop-less
+    loop-again
+    returns)

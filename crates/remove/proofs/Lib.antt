@@ -1,0 +1,14 @@
+pub mod HealTrim
+pub mod HealEnd
+pub mod HealPool
+pub mod HealDone
+pub mod HealRemove
+pub mod ShrinkLaws
+pub mod ShiftLaws
+pub mod PathLists
+pub mod StartLaws
+pub mod EndLaws
+pub mod RemoveLaws
+pub mod LastLaws
+pub mod ShellLaws
+pub mod AskLaws
