@@ -47,19 +47,28 @@ impl Op {
     }
 }
 
-/// One call; key and value are 0 where the call takes none.
+/// Cursors that each tree has.
+pub const CURSORS: usize = 3;
+
+/// One call; key and value are 0 where the call takes none. `which` is the cursor, 0 in a call by key.
 #[derive(Clone, Copy, Debug, PartialEq, Eq)]
 pub struct Call {
     pub op: Op,
     pub tree: usize,
+    pub which: usize,
     pub key: u32,
     pub value: u32,
 }
 
 impl Call {
-    /// A call with a key and a value.
+    /// A call with a key and a value, on the tree's first cursor.
     pub fn new(op: Op, tree: usize, key: u32, value: u32) -> Self {
-        Self { op, tree, key, value }
+        Self { op, tree, which: 0, key, value }
+    }
+
+    /// The same call on another cursor.
+    pub fn on(self, which: usize) -> Self {
+        Self { which, ..self }
     }
 }
 
@@ -67,6 +76,9 @@ impl fmt::Display for Call {
     fn fmt(&self, f: &mut fmt::Formatter) -> fmt::Result {
         let (name, words) = self.op.entry();
         write!(f, "{name} {}", self.tree)?;
+        if self.which > 0 {
+            write!(f, ".{}", self.which)?;
+        }
         for word in [self.key, self.value].iter().take(words) {
             write!(f, " {word}")?;
         }
@@ -123,18 +135,28 @@ impl fmt::Display for Cursor {
     }
 }
 
-/// Reads one call from a line such as `put 0 35 1035`.
+/// Reads one call from a line such as `put 0 35 1035` or, on the tree's second cursor, `seek 0.1 35`.
 pub fn parse(line: &str) -> Result<Call, String> {
     let mut words = line.split_whitespace();
     let name = words.next().unwrap_or("");
     let (op, _, count) =
         OPS.iter().find(|o| o.1 == name).ok_or_else(|| format!("unknown call `{name}`"))?;
-    let rest: Vec<u32> = words
-        .map(|w| w.parse().map_err(|_| format!("`{w}` is no 32-bit number")))
-        .collect::<Result<_, String>>()?;
-    if rest.len() != count + 1 {
-        return Err(format!("`{name}` takes a tree and {count} more, not {} numbers", rest.len()));
+    let (tree, which) = match words.next().map(|w| w.split_once('.').unwrap_or((w, "0"))) {
+        Some((tree, which)) => (number(tree)?, number(which)? as usize),
+        None => return Err(format!("`{name}` takes a tree and {count} more")),
+    };
+    if which >= if op.by_key() { 1 } else { CURSORS } {
+        return Err(format!("`{name}` has no cursor {which}"));
+    }
+    let rest: Vec<u32> = words.map(number).collect::<Result<_, String>>()?;
+    if rest.len() != *count {
+        return Err(format!("`{name}` takes a tree and {count} more, not {}", rest.len()));
     }
     let at = |i: usize| rest.get(i).copied().unwrap_or(0);
-    Ok(Call::new(*op, rest[0] as usize, at(1), at(2)))
+    Ok(Call::new(*op, tree as usize, at(0), at(1)).on(which))
+}
+
+/// Reads a 32-bit number.
+fn number(word: &str) -> Result<u32, String> {
+    word.parse().map_err(|_| format!("`{word}` is no 32-bit number"))
 }

@@ -99,7 +99,7 @@ fn sizes() {
     let (mut forest, mut set) = (SetForest::<u32>::new(), Set::new());
     let fits = |key: &u32| set.try_insert(*key, &mut forest, &()).is_ok();
     assert_eq!((0..100).take_while(fits).count(), 15);
-    let mut bench = Bench::new(1);
+    let mut bench = Bench::new(1, 1);
     assert_eq!((0..100).take_while(|k| bench.put(0, *k, 0).is_ok()).count(), 7);
 }
 
@@ -206,13 +206,13 @@ fn no_nodes() {
 /// A in a pool of so many nodes, put 35 without room: the keys that the crate still finds.
 fn keys_after_harm(room: usize) -> Vec<u32> {
     cranelift_entity::set_room(room);
-    let mut bench = Bench::new(1);
+    let mut bench = Bench::new(1, 1);
     for key in (1..=7).map(|k| 10 * k) {
         assert_eq!(bench.put(0, key, key), Ok(None));
     }
     assert!(bench.put(0, 35, 35).is_err());
     let found: Vec<u32> = (0..100).filter(|k| bench.get(0, *k).is_some()).collect();
-    let pairs = view::tree(&bench.nodes(), bench.root(0)).pairs();
+    let pairs = view::tree(&bench, bench.root(0)).pairs();
     assert!(pairs.iter().map(|p| p.0).eq(found.iter().copied()));
     found
 }

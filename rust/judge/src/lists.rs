@@ -4,9 +4,11 @@ use crate::calls::{Call, Op};
 
 /// A list of calls on T trees in a pool of N nodes.
 pub struct List {
-    pub name: &'static str,
+    pub name: String,
     pub trees: usize,
     pub nodes: usize,
+    /// The words it begins with, if they are not those of a fresh pool.
+    pub start: Option<Vec<u32>>,
     /// Is it in the recorded file?
     pub recorded: bool,
     pub calls: Vec<Call>,
@@ -97,7 +99,7 @@ fn random(trees: usize, keys: &[u32], count: usize, seed: u64) -> Vec<Call> {
 }
 
 /// A random cursor call.
-fn cursor_op(dice: &mut Dice) -> Op {
+pub fn cursor_op(dice: &mut Dice) -> Op {
     match dice.below(10) {
         0..=2 => Op::Seek,
         3 => Op::Settle,
@@ -167,7 +169,14 @@ fn from_right(n: u32) -> Vec<Call> {
 
 /// All lists, those of the recorded file first.
 pub fn all() -> Vec<List> {
-    let list = |name, trees, nodes, recorded, calls| List { name, trees, nodes, recorded, calls };
+    let list = |name: &str, trees, nodes, recorded, calls| List {
+        name: name.to_string(),
+        trees,
+        nodes,
+        start: None,
+        recorded,
+        calls,
+    };
     let small: Vec<u32> = (0..64).collect();
     let few: Vec<u32> = (1..=30).map(|k| 3 * k).collect();
     let large = wide_keys(130, 5);

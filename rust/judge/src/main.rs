@@ -1,22 +1,11 @@
 //! The judge: runs lists of calls on cranelift-bforest and records its answers.
 
-mod calls;
-mod cases;
-mod facts;
-mod lists;
-mod record;
-mod runner;
-mod short;
-mod sound;
-mod text;
-mod view;
-
-use cases::CASES;
-use lists::List;
-use runner::{Runner, Step, Stop};
+use judge::cases::CASES;
+use judge::lists::{self, List};
+use judge::text::{self, Show};
+use judge::{facts, record, run, short};
 use std::path::{Path, PathBuf};
 use std::process::ExitCode;
-use text::Show;
 
 /// What the command line asks for.
 struct Wish {
@@ -66,20 +55,6 @@ fn wish() -> Wish {
         }
     }
     out
-}
-
-/// Runs a list; a call whose cursor does not stand is left out.
-fn run(list: &List) -> (Vec<Step>, Runner) {
-    let mut runner = Runner::new(list.trees, list.nodes);
-    let mut steps = Vec::new();
-    for call in &list.calls {
-        match runner.call(*call) {
-            Ok(step) => steps.push(step),
-            Err(Stop::NotStanding) => {}
-            Err(stop) => panic!("list `{}`, {call}: {stop:?}", list.name),
-        }
-    }
-    (steps, runner)
 }
 
 /// The stated facts.
@@ -175,5 +150,5 @@ fn one_list(wish: &Wish) -> Result<(), String> {
     let mut all = short::lists().chain(lists::all());
     let list = all.find(|l| l.name == wish.name);
     let list = list.ok_or_else(|| format!("no list `{}`; --lists names them", wish.name))?;
-    text::run_calls(list.trees, list.nodes, &list.calls, wish.show)
+    text::run_calls(&list, wish.show)
 }

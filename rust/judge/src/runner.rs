@@ -1,10 +1,12 @@
 //! Runs calls on the crate, one after the other, and looks at everything after each.
 
-use crate::calls::{Answer, Call, Cursor, LEVELS, Op};
+use crate::calls::{Answer, CURSORS, Call, Cursor, LEVELS, Op};
 use crate::cases;
+use crate::decode;
+use crate::lists::List;
 use crate::sound;
-use crate::view::{self, Tree};
-use cranelift_bforest::probe::{Bench, PathParts};
+use crate::view::{self, Node, Tree};
+use cranelift_bforest::probe::{Bench, Held, PathParts};
 use std::collections::BTreeMap;
 use std::ops::Bound;
 
@@ -38,17 +40,44 @@ pub struct Runner {
     trees: Vec<Tree>,
     words: Vec<u32>,
     plain: Vec<BTreeMap<u32, u32>>,
+    /// Was the pool made, and not formatted? It may then have what no calls lead to.
+    made: bool,
 }
 
 impl Runner {
     /// A fresh pool. The bound on nodes holds for this thread until the next one is made.
     pub fn new(trees: usize, room: usize) -> Self {
         cranelift_entity::set_room(room);
-        let bench = Bench::new(trees);
+        let bench = Bench::new(trees, CURSORS);
         let trees = vec![Tree::default(); trees];
         let words = view::words(&bench, &trees, room);
         let plain = vec![BTreeMap::new(); trees.len()];
-        Self { bench, room, trees, words, plain }
+        Self { bench, room, trees, words, plain, made: false }
+    }
+
+    /// The pool that a list begins with.
+    pub fn of(list: &List) -> Self {
+        match &list.start {
+            Some(words) => Self::made(words),
+            None => Self::new(list.trees, list.nodes),
+        }
+    }
+
+    /// The pool of these words, which must be sound.
+    pub fn made(words: &[u32]) -> Self {
+        let (count, room, _) = decode::counts(words);
+        cranelift_entity::set_room(room);
+        let crates = |n: &u32| n.checked_sub(1);
+        let roots: Vec<Option<u32>> = (0..count).map(|t| crates(&decode::root(words, t))).collect();
+        let nodes: Vec<Held> = (1..=room as u32).map(|n| held(words, n)).collect();
+        let free: Vec<u32> = decode::stack(words).iter().rev().filter_map(crates).collect();
+        let mut out = Self::new(count, room);
+        out.bench = Bench::made(&roots, &nodes, &free, CURSORS);
+        out.look(count);
+        out.plain = out.trees.iter().map(|t| t.pairs().into_iter().collect()).collect();
+        out.made = true;
+        assert_eq!(out.words, words, "the crate's nodes make other words");
+        out
     }
 
     /// The pool's words now.
@@ -61,9 +90,21 @@ impl Runner {
         &self.trees[tree]
     }
 
-    /// A tree's cursor, cleaned.
-    pub fn cursor(&self, tree: usize) -> Cursor {
-        clean(&self.bench.cursor(tree))
+    /// One of a tree's cursors, cleaned.
+    pub fn cursor(&self, tree: usize, which: usize) -> Cursor {
+        clean(&self.bench.cursor(tree, which))
+    }
+
+    /// Are there the nodes that a call on one of the trees needs, by document 01?
+    pub fn has_room(&self, call: &Call) -> bool {
+        let absent = !self.plain[call.tree].contains_key(&call.key);
+        let free = self.words[self.trees.len() + 2 + 16 * self.room] as usize;
+        call.op != Op::Put || !absent || self.trees[call.tree].need(call.key) <= free
+    }
+
+    /// Does the crate, asked on a copy of its nodes, run out of them in this put?
+    pub fn runs_out(&self, call: &Call) -> bool {
+        self.bench.copy().put(call.tree, call.key, call.value).is_err()
     }
 
     /// Makes one call.
@@ -71,7 +112,7 @@ impl Runner {
         if call.tree >= self.trees.len() {
             return Err(Stop::NoTree);
         }
-        let kept = self.cursor(call.tree);
+        let kept = self.cursor(call.tree, call.which);
         let by_key = call.op.by_key();
         if !by_key && !call.op.starts() && !self.trees[call.tree].holds(&kept) {
             return Err(Stop::NotStanding);
@@ -98,7 +139,8 @@ impl Runner {
             (_, Some(key)) => cases::of_remove(key, old, new),
             _ => 0,
         };
-        let cursors = if by_key { Default::default() } else { (kept, self.cursor(call.tree)) };
+        let cursors =
+            if by_key { Default::default() } else { (kept, self.cursor(call.tree, call.which)) };
         Ok(Step {
             call,
             before: if call.op.starts() { Cursor::default() } else { cursors.0 },
@@ -112,28 +154,27 @@ impl Runner {
 
     /// Calls the crate.
     fn ask(&mut self, call: Call) -> Result<Answer, Stop> {
-        let Call { op, tree, key, value } = call;
+        let Call { op, tree, which, key, value } = call;
         let bench = &mut self.bench;
         Ok(match op {
             Op::Put => Answer::value(bench.put(tree, key, value).map_err(|_| Stop::NoRoom)?),
             Op::Remove => Answer::value(bench.remove(tree, key)),
             Op::Get => Answer::value(bench.get(tree, key)),
-            Op::Seek => Answer::value(bench.seek(tree, key)),
+            Op::Seek => Answer::value(bench.seek(tree, which, key)),
             Op::Settle => {
-                bench.settle(tree);
+                bench.settle(tree, which);
                 Answer::value(None)
             }
-            Op::First => Answer::pair(bench.first(tree)),
-            Op::Next => Answer::pair(bench.next(tree)),
-            Op::Prev => Answer::pair(bench.prev(tree)),
-            Op::RemoveAt => Answer::value(bench.remove_at(tree)),
+            Op::First => Answer::pair(bench.first(tree, which)),
+            Op::Next => Answer::pair(bench.next(tree, which)),
+            Op::Prev => Answer::pair(bench.prev(tree, which)),
+            Op::RemoveAt => Answer::value(bench.remove_at(tree, which)),
         })
     }
 
     /// Reads all trees and the words out of the crate.
     fn look(&mut self, trees: usize) {
-        let nodes = self.bench.nodes();
-        self.trees = (0..trees).map(|t| view::tree(&nodes, self.bench.root(t))).collect();
+        self.trees = (0..trees).map(|t| view::tree(&self.bench, self.bench.root(t))).collect();
         self.words = view::words(&self.bench, &self.trees, self.room);
     }
 
@@ -169,7 +210,7 @@ impl Runner {
 
     /// Holds the moved cursor against document 01.
     fn compare_cursor(&self, call: &Call, from: Spot, gone: Option<u32>, answer: &Answer) {
-        let cursor = self.cursor(call.tree);
+        let cursor = self.cursor(call.tree, call.which);
         assert!(self.trees[call.tree].holds(&cursor), "{call}: the cursor does not stand");
         let to = self.spot(call.tree, &cursor);
         let map = &self.plain[call.tree];
@@ -191,12 +232,12 @@ impl Runner {
     }
 
     /// Holds all pairs against the plain maps, and the words against document 01's sound pools. In
-    /// trees that the crate builds a leaf that is not the last has 4 entries or more.
+    /// trees that the crate builds from none a leaf that is not the last has 4 entries or more.
     fn compare_pool(&self, call: &Call) {
         for (tree, map) in self.trees.iter().zip(&self.plain) {
             assert!(tree.pairs().into_iter().eq(map.iter().map(plain_pair)), "{call}: other pairs");
             let small = tree.height(0).iter().rev().skip(1).any(|leaf| leaf.keys.len() < 4);
-            assert!(!small, "{call}: a leaf of 3 off the right end");
+            assert!(!small || self.made, "{call}: a leaf of 3 off the right end");
         }
         if let Err(why) = sound::check(&self.words) {
             panic!("{call}: {why}");
@@ -224,6 +265,15 @@ fn after(map: &BTreeMap<u32, u32>, spot: Spot) -> Option<(u32, u32)> {
         Spot::On(k) | Spot::Past(k) => {
             map.range((Bound::Excluded(k), Bound::Unbounded)).next().map(plain_pair)
         }
+    }
+}
+
+/// A node of the words as the crate holds it.
+fn held(words: &[u32], number: u32) -> Held {
+    match decode::node(words, number) {
+        Ok(Node { leaf: true, keys, items, .. }) => Held::Leaf(keys, items),
+        Ok(Node { keys, items, .. }) => Held::Inner(keys, items.iter().map(|n| n - 1).collect()),
+        Err(_) => Held::Free,
     }
 }
 

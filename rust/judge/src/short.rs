@@ -22,11 +22,14 @@ fn take(tree: usize, key: u32) -> Vec<Call> {
 }
 
 /// A run in parts; past 30 calls the words are written out between parts too.
-fn run(name: &'static str, trees: usize, nodes: usize, parts: &[Vec<Call>]) -> Run {
+fn run(name: &str, trees: usize, nodes: usize, parts: &[Vec<Call>]) -> Run {
     let calls = parts.concat();
     let ends = (1..parts.len()).map(|i| parts[..i].iter().map(Vec::len).sum());
     let stops = ends.filter(|end| *end >= 30).collect();
-    Run { list: List { name, trees, nodes, recorded: false, calls }, stops }
+    Run {
+        list: List { name: name.to_string(), trees, nodes, start: None, recorded: false, calls },
+        stops,
+    }
 }
 
 /// Multiples of ten up to a number.

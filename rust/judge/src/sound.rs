@@ -38,9 +38,9 @@ struct Pool<'a> {
 impl<'a> Pool<'a> {
     /// Finds the sections, if counts and length fit.
     fn of(words: &'a [u32]) -> Result<Self, String> {
-        let trees = words[0] as usize;
+        let trees = words.first().map_or(0, |w| *w as usize);
         want((1..=32).contains(&trees), "T")?;
-        let room = words[trees + 1] as usize;
+        let room = words.get(trees + 1).map_or(usize::MAX, |w| *w as usize);
         want(room <= 512 && words.len() == trees + 17 * room + 3, "N or the length")?;
         let count = words[trees + 2 + 16 * room] as usize;
         want(count <= room, "F is above N")?;

@@ -1,8 +1,11 @@
 //! Lists of calls as text, and the answers printed after each call.
 
-use crate::calls::{self, Call};
+use crate::calls;
 use crate::cases;
+use crate::decode;
+use crate::lists::List;
 use crate::runner::{Runner, Step, Stop};
+use crate::sound;
 
 /// A step in one line: the call, then number, found, key and value, then the cursor's size and
 /// its node.place pairs. A call by key has no cursor.
@@ -24,9 +27,9 @@ pub struct Show {
 }
 
 /// Runs calls and prints each.
-pub fn run_calls(trees: usize, nodes: usize, calls: &[Call], show: Show) -> Result<(), String> {
-    let mut runner = Runner::new(trees, nodes);
-    for call in calls {
+pub fn run_calls(list: &List, show: Show) -> Result<(), String> {
+    let mut runner = Runner::of(list);
+    for call in &list.calls {
         match runner.call(*call) {
             Ok(step) => {
                 println!("{}", line(&step));
@@ -53,7 +56,12 @@ pub fn run_calls(trees: usize, nodes: usize, calls: &[Call], show: Show) -> Resu
 
 /// The pool's words with commas between them.
 pub fn words(runner: &Runner) -> String {
-    let list: Vec<String> = runner.words().iter().map(u32::to_string).collect();
+    commas(runner.words())
+}
+
+/// Words with commas between them.
+fn commas(words: &[u32]) -> String {
+    let list: Vec<String> = words.iter().map(u32::to_string).collect();
     list.join(", ")
 }
 
@@ -73,36 +81,72 @@ fn print_tree(runner: &Runner, step: &Step) {
     print!("{}", tree.text());
 }
 
-/// Runs a file of calls: `trees T` and `nodes N`, then a call a line; `run` starts another list on
-/// a fresh pool. Words after `->` and the other lines of a recorded run are passed over.
+/// Runs the lists of a file and prints each call.
 pub fn run_file(name: &str, show: Show) -> Result<(), String> {
+    for list in read_file(name)? {
+        println!("trees {}\nnodes {}", list.trees, list.nodes);
+        run_calls(&list, show)?;
+    }
+    Ok(())
+}
+
+/// Reads a file of calls: `trees T` and `nodes N`, then a call a line; `run` starts another list on
+/// a fresh pool, and `pool` with words between commas gives it another beginning. Words after `->` and the other lines of a recorded run are passed over.
+pub fn read_file(name: &str) -> Result<Vec<List>, String> {
     let text = if name == "-" {
         std::io::read_to_string(std::io::stdin())
     } else {
         std::fs::read_to_string(name)
     };
     let text = text.map_err(|e| format!("{name}: {e}"))?;
-    let mut lists = vec![(1, 512, Vec::new())];
+    let mut lists = vec![fresh(name)];
     for (i, raw) in text.lines().enumerate() {
         let call = raw.split("->").next().unwrap_or("").trim();
         let first = call.split_whitespace().next().unwrap_or("");
-        let number = || call[first.len()..].trim().parse::<usize>();
+        let rest = call[first.len()..].trim();
+        let number = || rest.parse::<usize>();
         let wrong = |why: String| format!("{name}:{}: {why}", i + 1);
         let last = lists.len() - 1;
         match first {
             "" | "cases" | "words" | "#" => {}
-            "run" => lists.push((1, 512, Vec::new())),
-            "trees" => lists[last].0 = number().map_err(|e| wrong(e.to_string()))?,
-            "nodes" => lists[last].1 = number().map_err(|e| wrong(e.to_string()))?,
-            _ => lists[last].2.push(calls::parse(call).map_err(wrong)?),
+            "run" => lists.push(fresh(rest)),
+            "trees" => lists[last].trees = number().map_err(|e| wrong(e.to_string()))?,
+            "nodes" => lists[last].nodes = number().map_err(|e| wrong(e.to_string()))?,
+            "pool" => {
+                let words = pool(rest).map_err(wrong)?;
+                (lists[last].trees, lists[last].nodes, _) = decode::counts(&words);
+                lists[last].start = Some(words);
+            }
+            _ => lists[last].calls.push(calls::parse(call).map_err(wrong)?),
         }
     }
-    for (trees, nodes, calls) in lists.iter().filter(|l| !l.2.is_empty()) {
-        if !(1..=32).contains(trees) || *nodes > 512 {
-            return Err(format!("{name}: T is 1 to 32 and N is 0 to 512, not {trees} and {nodes}"));
+    lists.retain(|l| !l.calls.is_empty());
+    match lists.iter().find(|l| !(1..=32).contains(&l.trees) || l.nodes > 512) {
+        Some(List { trees, nodes, .. }) => {
+            Err(format!("{name}: T is 1 to 32 and N is 0 to 512, not {trees} and {nodes}"))
         }
-        println!("trees {trees}\nnodes {nodes}");
-        run_calls(*trees, *nodes, calls, show)?;
+        None => Ok(lists),
     }
-    Ok(())
+}
+
+/// A list without calls yet.
+fn fresh(name: &str) -> List {
+    let (name, calls) = (name.to_string(), Vec::new());
+    List { name, trees: 1, nodes: 512, start: None, recorded: false, calls }
+}
+
+/// The words of a sound pool, with commas between them.
+fn pool(text: &str) -> Result<Vec<u32>, String> {
+    let words: Result<Vec<u32>, _> = text.split(',').map(|w| w.trim().parse()).collect();
+    let words = words.map_err(|e| e.to_string())?;
+    sound::check(&words).map_err(|why| format!("the words are not a sound pool: {why}"))?;
+    Ok(words)
+}
+
+/// A list of calls as such a file.
+pub fn list(list: &List) -> String {
+    let calls: Vec<String> = list.calls.iter().map(|c| format!("{c}\n")).collect();
+    let start = list.start.as_ref().map_or(String::new(), |w| format!("pool {}\n", commas(w)));
+    let (name, trees, nodes) = (&list.name, list.trees, list.nodes);
+    format!("run {name}\ntrees {trees}\nnodes {nodes}\n{start}{}", calls.concat())
 }

@@ -129,11 +129,11 @@ impl Tree {
 }
 
 /// Reads a tree out of the crate.
-pub fn tree(nodes: &[Held], root: Option<u32>) -> Tree {
+pub fn tree(bench: &Bench, root: Option<u32>) -> Tree {
     let mut rows = Vec::new();
     let mut numbers: Vec<u32> = root.into_iter().map(|n| n + 1).collect();
     while !numbers.is_empty() {
-        let row: Vec<Node> = numbers.iter().map(|n| node(nodes, *n)).collect();
+        let row: Vec<Node> = numbers.iter().map(|n| node(bench, *n)).collect();
         assert!(row.iter().all(|n| n.leaf == row[0].leaf), "leaves at two depths");
         let below = row.iter().filter(|n| !n.leaf).flat_map(|n| n.items.clone());
         numbers = below.collect();
@@ -143,15 +143,13 @@ pub fn tree(nodes: &[Held], root: Option<u32>) -> Tree {
 }
 
 /// Reads one node, by our number.
-fn node(nodes: &[Held], number: u32) -> Node {
-    match &nodes[number as usize - 1] {
+fn node(bench: &Bench, number: u32) -> Node {
+    match bench.node(number - 1) {
         Held::Inner(keys, children) => {
             let items = children.iter().map(|n| n + 1).collect();
-            Node { number, leaf: false, keys: keys.clone(), items }
+            Node { number, leaf: false, keys, items }
         }
-        Held::Leaf(keys, values) => {
-            Node { number, leaf: true, keys: keys.clone(), items: values.clone() }
-        }
+        Held::Leaf(keys, items) => Node { number, leaf: true, keys, items },
         Held::Free => panic!("free node {number} in a tree"),
     }
 }
@@ -178,7 +176,7 @@ pub fn words(bench: &Bench, trees: &[Tree], room: usize) -> Vec<u32> {
 
 /// The free nodes, top last: those never used below, then the crate's list from its end.
 fn stack(bench: &Bench, room: usize) -> Vec<u32> {
-    let used = bench.nodes().len() as u32;
+    let used = bench.used() as u32;
     let mut out: Vec<u32> = (used + 1..=room as u32).rev().collect();
     out.extend(bench.free_list().iter().rev().map(|n| n + 1));
     out

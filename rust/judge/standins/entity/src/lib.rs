@@ -66,6 +66,12 @@ impl<K: EntityRef, V> Default for PrimaryMap<K, V> {
     }
 }
 
+impl<K: EntityRef, V: Clone> Clone for PrimaryMap<K, V> {
+    fn clone(&self) -> Self {
+        Self { items: self.items.clone(), names: PhantomData }
+    }
+}
+
 impl<K: EntityRef, V> PrimaryMap<K, V> {
     /// An empty map.
     pub fn new() -> Self {
