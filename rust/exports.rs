@@ -1,5 +1,5 @@
 //! The library's functions as include/recorder.h declares them, for the judge, the attack and the bench. A C bool is read as
-//! a byte, so that a byte other than 0 and 1 would be seen.
+//! a byte, so that a byte other than 0 and 1 would be seen. The package rust/recorder has its own, since it stands alone.
 
 // each of the three uses its part
 #![allow(dead_code)]

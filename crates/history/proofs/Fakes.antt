@@ -34,16 +34,16 @@ abbrev pub Keeps : Program → Type 0
 Keeps f = (c : Call) (ws : List ℕ) → Calls leafLeast c ws ((f c ws) .words) ((f c ws) .answer)
 
 -- a fresh pool of one tree and two nodes; 9 filed in it
-abbrev start : Pool
+abbrev pub start : Pool
 start = fresh 1 2
 
-start-formed : WellFormed leafLeast start
+pub start-formed : WellFormed leafLeast start
 start-formed = fresh-formed leafLeast 1 2 (omega arith) (omega arith) (omega arith)
 
-abbrev filed : Pool
+abbrev pub filed : Pool
 filed = run (put 0 9 100 ∷ []) start
 
-filed-formed : WellFormed leafLeast filed
+pub filed-formed : WellFormed leafLeast filed
 filed-formed = run-formed leafLeast (omega arith) (omega arith) (put 0 9 100 ∷ []) start start-formed
 
 -- one that only refuses: the exact table says that get of a tree that is there is done
@@ -113,7 +113,7 @@ KeepsMoves f = (v : Move) (c : Cursor) (ws : List ℕ) → Moves leafLeast v c w
 abbrev off-end : Cursor
 off-end = cursorAt 0 []
 
-abbrev on-nine : Cursor
+abbrev pub on-nine : Cursor
 on-nine = cursorAt 0 ((1, 0) ∷ [])
 
 pub only-refuses-moves : (f : Mover) → ((v : Move) (c : Cursor) (ws : List ℕ) → 1 ≤ (f v c ws) .answer .number) → KeepsMoves f → ⊥

@@ -8,19 +8,18 @@ use lib.ListN.{replicate}
 use Rattle.forest.specs.Sizes.{leafLeast}
 use Rattle.forest.specs.declared.Cursor.{Cursor}
 use Rattle.forest.specs.Answers.{refusal}
-use Rattle.forest.specs.Pools.{Pool, WellFormed, Sound, encode, fresh, Call, put, remove, get, call, run, answers, formatWords}
-use Rattle.forest.specs.Cursors.{Move, move, cursorAt, to-key, to-remove}
+use Rattle.forest.specs.Pools.{WellFormed, Sound, encode, fresh, Call, put, remove, get, call, run, answers, formatWords}
+use Rattle.forest.specs.Cursors.{Move, move, to-remove}
 use Rattle.forest.specs.Promises.{Calls, Moves}
 use Rattle.forest.proofs.ListLaws.{Test, is, isnt, test}
 use Rattle.forest.proofs.CountLaws.{fresh-formed}
-use Rattle.forest.proofs.RunLaws.{run-formed}
 use Rattle.forest.proofs.PromiseLaws.{calls-by, calls-unsound, moves-by, moves-unsound}
 use Rattle.forest.proofs.Trials.{steps}
 use Rattle.sound.specs.Checks.{checked, framed}
 use Rattle.sound.proofs.CheckSteps.{exact}
 use Rattle.history.specs.Histories.{Ran, ownOf, Went, stays, formats, calls, moves}
 use Rattle.history.proofs.Laws.{ran}
-use Rattle.history.proofs.Fakes.{Outcome, Program, Keeps, Handed, Mover, KeepsMoves}
+use Rattle.history.proofs.Fakes.{Outcome, Program, Keeps, Handed, Mover, KeepsMoves, start, start-formed, filed, filed-formed, on-nine}
 
 -- the outcome on sound words, and on others
 abbrev outcome : (c : Call) (ws : List ℕ) → Test (checked ws leafLeast) → Outcome
@@ -72,19 +71,11 @@ unfolding steps
 own-calls = (refl, refl)
 
 -- any calls in any order, from words that are no pool: refused, formatted, filed, and taken out at a cursor
-abbrev filed : Pool
-filed = run (put 0 9 100 ∷ []) (fresh 1 2)
-
-abbrev on-nine : Cursor
-on-nine = (move (to-key 9) (cursorAt 0 []) filed) .cursor
-
 pub some-calls : (Sound leafLeast (replicate 38 0) → ⊥) × Went leafLeast (replicate 38 0) (encode (fresh 1 2))
 unfolding steps checked framed formatWords
 some-calls =
-    let n : Sound leafLeast (replicate 38 0) → ⊥ = λ q. true≢false (sym ((exact (replicate 38 0) false refl) .every q)) in
-    let f : WellFormed leafLeast (fresh 1 2) = fresh-formed leafLeast 1 2 (omega arith) (omega arith) (omega arith) in
-    let g : WellFormed leafLeast filed = run-formed leafLeast (omega arith) (omega arith) (put 0 9 100 ∷ []) (fresh 1 2) f in (
+    let n : Sound leafLeast (replicate 38 0) → ⊥ = λ q. true≢false (sym ((exact (replicate 38 0) false refl) .every q)) in (
       n,
       calls (calls-unsound leafLeast (omega arith) (put 0 9 100) (replicate 38 0) n)
-          (formats 1 2 refl (calls (calls-by leafLeast (omega arith) (put 0 9 100) _ _ _ (record { pool = fresh 1 2; formed = f; same = refl }) refl refl) (moves (moves-by leafLeast (omega arith) to-remove on-nine _ _ _ _ (record { pool = filed; formed = g; same = refl }) refl refl refl) stays))),
+          (formats 1 2 refl (calls (calls-by leafLeast (omega arith) (put 0 9 100) _ _ _ (record { pool = start; formed = start-formed; same = refl }) refl refl) (moves (moves-by leafLeast (omega arith) to-remove on-nine _ _ _ _ (record { pool = filed; formed = filed-formed; same = refl }) refl refl refl) stays))),
     )

@@ -1,7 +1,7 @@
 //! The harness for libFuzzer: its bytes make the same choices that the plain driver draws, and a finding aborts.
 
+use crate::attempt;
 use crate::counts::Notes;
-use crate::session;
 use crate::source::Source;
 use crate::trial::Trial;
 use std::cell::RefCell;
@@ -20,7 +20,7 @@ pub unsafe extern "C" fn LLVMFuzzerTestOneInput(data: *const u8, size: usize) ->
     // SAFETY: the caller's promise; of no bytes the pointer is not looked at.
     let bytes = if size == 0 { &[] } else { unsafe { std::slice::from_raw_parts(data, size) } };
     TRIAL.with_borrow_mut(|trial| {
-        if let Err(finding) = session::run(&mut Source::Read(bytes), trial) {
+        if let Err(finding) = attempt::run(&mut Source::Read(bytes), trial) {
             eprintln!("FINDING: {finding}");
             abort();
         }

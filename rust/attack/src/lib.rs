@@ -1,5 +1,6 @@
 //! Attacks librecorder.a: any words, any cursors, every call, held to document 01. docs/ATTACK.md tells what was run.
 
+pub mod attempt;
 pub mod bend;
 pub mod counts;
 pub mod damage;
@@ -11,7 +12,6 @@ pub mod guard;
 pub mod make;
 pub mod raw;
 pub mod rules;
-pub mod session;
 pub mod sound;
 pub mod source;
 pub mod trial;

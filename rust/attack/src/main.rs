@@ -1,11 +1,11 @@
 //! The plain driver. The calls are made in a process of their own, so that a crash can be told.
 
+use attack::attempt;
 use attack::counts::{Kind, Notes};
 use attack::facts;
 use attack::faults::{FAULTS, Fault};
 use attack::guard::shared_page;
 use attack::raw::Call;
-use attack::session;
 use attack::source::Source;
 use attack::trial::{Finding, Trial};
 use attack::worst;
@@ -114,7 +114,7 @@ fn calls(words: &Words) -> ! {
         }
         trial.notes.input(input);
         wait();
-        if let Err(finding) = session::run(&mut Source::drawn(words.seed, input), &mut trial) {
+        if let Err(finding) = attempt::run(&mut Source::drawn(words.seed, input), &mut trial) {
             report(finding, format!("--seed {} --input {input}", words.seed));
         }
         if told.elapsed() >= Duration::from_secs(5) {
