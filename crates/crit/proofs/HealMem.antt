@@ -10,12 +10,13 @@ use Rattle.forest.specs.Lists.{removeAt, once, count}
 use Rattle.forest.specs.Pairs.{Item}
 use Rattle.forest.specs.Rows.{Node, Row, nums, itemsAt}
 use Rattle.forest.specs.Trees.{numbers}
-use Rattle.forest.proofs.ListLaws.{total-append, total-removeAt}
+use Rattle.forest.proofs.ListLaws.{total-removeAt}
 use Rattle.crit.proofs.HealRows.{upd, numAt, nums-removeAt}
 pub use Rattle.pool.specs.Stores.{Store, put}
 pub use Rattle.pool.proofs.Spell.{put-same, put-other}
 pub use Rattle.pool.proofs.Held.{numAt-counts, holds-at, holds-keeps, frame, holds-upd, up-keeps}
 pub use Rattle.crit.specs.Paths.{Holds, HoldsUp}
+use Rattle.forest.proofs.WordLaws.{count-append}
 
 -- st′ is st but for some numbers
 abbrev pub Keeps : Store → Store → List ℕ → Type 0
@@ -28,7 +29,7 @@ abbrev pub Apart : List ℕ → List ℕ → Type 0
 Apart xs ys = (x : ℕ) → count x xs + count x ys ≤ 1
 
 pub once-append : (xs ys : List ℕ) → Once (xs ++ ys) → Apart xs ys
-once-append xs ys o x = rw (total-append (λ z. once (eqb x z)) xs ys) at (o x)
+once-append xs ys o x = rw (count-append x xs ys) at (o x)
 
 -- one of the numbers goes
 pub gone-count : (R : Row) (j x : ℕ) → j < length R → once (eqb x (numAt R j)) + count x (nums (removeAt j R)) ≡ count x (nums R)

@@ -12,8 +12,8 @@ use Rattle.forest.specs.Pairs.{Item}
 use Rattle.forest.specs.Rows.{Row, size, nums, sizes, itemsAt}
 use Rattle.forest.specs.Trees.{numbers}
 use Rattle.forest.specs.Pools.{innerWords}
-use Rattle.forest.proofs.ListLaws.{is, isnt, test, parent-lt}
-use Rattle.forest.proofs.RowLaws.{length-items, fill-at}
+use Rattle.forest.proofs.ListLaws.{is, isnt, test}
+use Rattle.forest.proofs.RowLaws.{length-items, parent-there}
 use Rattle.crit.proofs.HealRows
 use Rattle.crit.proofs.HealStack
 use Rattle.crit.proofs.HealMem
@@ -81,14 +81,14 @@ module _ (st : HealMem.Store) (ns ps : ℕ → ℕ) where
             let e : HealPath.more st ns ps (length Ss) ≡ true = m ∙ lt-ltb (suc (offset (sizes S) j)) (length (itemsAt S (parent (sizes S) j))) g in
             let q′ = rw (y, z) at q in
             simp e (
-              simp (eq-eqb (suc (length Ss)) (suc (length Ss)) refl) (rw (r .words, r .place) (HealPath.inner-child (0, 0) (suc (offset (sizes S) j)) (itemsAt S (parent (sizes S) j)) g (r .few) ∙ q′)),
+              simp (eq-eqb (suc (length Ss)) (suc (length Ss)) refl) (rw (r .words, r .place) (HealPath.inner-child (itemsAt S (parent (sizes S) j)) (suc (offset (sizes S) j)) (omega (arith, r .few)) ∙ q′)),
               simp (eq-eqb (length Ss) (length Ss) refl) (ap suc (r .place) ∙ sym z),
               rw y (path-deeper S (parent (sizes S) j) Ss ns ps (at ns (suc (length Ss)) _) (at ps (length Ss) _)
                   (λ l b. simp (ne-eqb l (suc (length Ss)) (omega arith))) (λ l b. simp (ne-eqb l (length Ss) (omega arith))) (p .2)),
             )
         | HealStack.across x y z ↦
             let e : HealPath.more st ns ps (length Ss) ≡ false = m ∙ le-ltb (suc (offset (sizes S) j)) (length (itemsAt S (parent (sizes S) j))) (omega (arith, r .wide)) in
-            let n2 : suc (parent (sizes S) j) < length S = rw y at (rw (length-map S size) at (parent-lt (sizes S) (suc j) (omega arith))) in
+            let n2 : suc (parent (sizes S) j) < length S = rw y at (parent-there S (suc j) (omega arith)) in
             let q′ = rw (y, z) at q in
             let l2 = length-items S (suc (parent (sizes S) j)) in
             let one : 1 ≤ length (itemsAt S (suc (parent (sizes S) j))) = rw l2 (HealStack.some-at (sizes S) (suc (parent (sizes S) j)) big (rw (length-map S size) n2)) in
@@ -96,7 +96,7 @@ module _ (st : HealMem.Store) (ns ps : ℕ → ℕ) where
             let w : st ((nextAt st ns ps (length Ss)) .0 (length Ss)) ≡ innerWords (itemsAt S (suc (parent (sizes S) j))) =
             ap st (HealPath.path-node S (suc (parent (sizes S) j)) Ss ((nextAt st ns ps (length Ss)) .0) ((nextAt st ns ps (length Ss)) .1) ih) ∙ HealMem.holds-at innerWords st S (suc (parent (sizes S) j)) n2 (hu .0) in
             simp e (
-              simp (eq-eqb (suc (length Ss)) (suc (length Ss)) refl) (rw w (HealPath.inner-child (0, 0) 0 (itemsAt S (suc (parent (sizes S) j))) one (rw l2 (fill-at 4 8 (sizes S) (suc (parent (sizes S) j)) (s .1))) ∙ q′)),
+              simp (eq-eqb (suc (length Ss)) (suc (length Ss)) refl) (rw w (HealPath.inner-child (itemsAt S (suc (parent (sizes S) j))) 0 (omega arith) ∙ q′)),
               simp (eq-eqb (length Ss) (length Ss) refl) (sym z),
               rw y (path-deeper S (suc (parent (sizes S) j)) Ss ((nextAt st ns ps (length Ss)) .0) ((nextAt st ns ps (length Ss)) .1) (at ((nextAt st ns ps (length Ss)) .0) (suc (length Ss)) _) (at ((nextAt st ns ps (length Ss)) .1) (length Ss) _)
                   (λ l b. simp (ne-eqb l (suc (length Ss)) (omega arith))) (λ l b. simp (ne-eqb l (length Ss) (omega arith))) ih),

@@ -5,33 +5,28 @@ use mathlib.Core.Bool.{true, false}
 use mathlib.Core.Option.{none, some}
 use Prim.Native.Nat.{ℕ, zero, suc, _+_, _-_, _≤_, _<_}
 use native.Mathlib.Omega.{arith}
-use lib.ListN.{length, drop, getD, set, length-map, List·getD-append}
-use lib.Seq.{getD-append-add, set-append-left}
+use lib.ListN.{length, getD, set, length-map}
+use lib.Seq.{set-append-left}
 use lib.Dec.{ltb, eqb}
 use borrow.Author.Tests.{lt-ltb, le-ltb, ltb-true, ltb-false, eqb-true, eqb-false, eq-eqb, ne-eqb}
-use Rattle.forest.specs.Lists.{sum, once, count, pad, parent, offset}
+use Rattle.forest.specs.Lists.{sum, count, pad, parent, offset}
 use Rattle.forest.specs.Pairs.{Item}
 use Rattle.forest.specs.Rows.{Row, size, front, nums, sizes, line, itemsAt, Fill}
 use Rattle.forest.specs.Trees.{numbers}
 use Rattle.forest.specs.Pools.{innerWords}
-use Rattle.forest.proofs.ListLaws.{is, isnt, test, total-append, parent-lt, offset-lt}
-use Rattle.forest.proofs.RowLaws.{length-items, fill-at}
+use Rattle.forest.proofs.ListLaws.{is, isnt, test, offset-lt}
+use Rattle.forest.proofs.RowLaws.{length-items, fill-at, parent-there}
 use Rattle.crit.proofs.HealRows.{upd, numAt, rekeyAt, length-rekeyAt, item-at, line-at, upd-nums}
-use Rattle.crit.proofs.HealStack.{within, across, next, last, first, fill-some, some-at, alike-at, Stacked, stacked-sum, setKey}
+use Rattle.crit.proofs.HealStack.{within, across, next, last, first, fill-some, some-at, vals-rekey, alike-at, Stacked, stacked-sum, setKey}
 use Rattle.crit.proofs.HealMem.{Store, put, Keeps, Once, once-append, Holds, holds-at, holds-apart, holds-upd, holds-same, HoldsUp, up-apart, put-keeps, numAt-counts}
-use Rattle.forest.proofs.CountLaws.{length-pad}
-use Rattle.node.proofs.Pads.{pad-at}
-pub use Rattle.node.proofs.Words.{inner-first}
+use Rattle.forest.proofs.CountLaws.{length-pad, set-pad}
+use Rattle.forest.proofs.Descent.{front-first}
+pub use Rattle.node.proofs.Words.{inner-first, inner-key, inner-child}
 pub use Rattle.crit.specs.Paths.{Path}
 pub use Rattle.crit.specs.States.{more, rightSibling, critKey, rightSet, leftSet}
+use Rattle.forest.proofs.WordLaws.{count-append}
 
 -- Words of an inner node
-pub set-pad : (n : ℕ) (xs : List ℕ) (i k : ℕ) → i < length xs → pad n (set xs i k) ≡ set (pad n xs) i k
-set-pad zero xs i k h = refl
-set-pad (suc n) [] i k h = absurd (omega arith)
-set-pad (suc n) (x ∷ xs) zero k h = refl
-set-pad (suc n) (x ∷ xs) (suc i) k h = ap (x ∷_) (set-pad n xs i k (omega arith))
-
 abbrev fst : Item → ℕ
 fst x = x .0
 
@@ -43,11 +38,6 @@ keys-rekey i k [] = refl
 keys-rekey zero k (x ∷ xs) = refl
 keys-rekey (suc i) k (x ∷ xs) = ap (x .0 ∷_) (keys-rekey i k xs)
 
-vals-rekey : (i k : ℕ) (xs : List Item) → map snd (rekeyAt i k xs) ≡ map snd xs
-vals-rekey i k [] = refl
-vals-rekey zero k (x ∷ xs) = refl
-vals-rekey (suc i) k (x ∷ xs) = ap (x .1 ∷_) (vals-rekey i k xs)
-
 pub inner-set : (o k : ℕ) (xs : List Item) → suc o < length xs → length xs ≤ 8 → set (innerWords xs) (suc o) k ≡ innerWords (rekeyAt (suc o) k xs)
 inner-set o k [] h l = absurd (omega arith)
 inner-set o k (x ∷ xs) h l =
@@ -55,40 +45,16 @@ inner-set o k (x ∷ xs) h l =
     let b : o < length (map fst xs) = rw (length-map xs fst) (omega arith) in
     let c : set (pad 7 (map fst xs) ++ pad 8 (map snd (x ∷ xs))) o k ≡ pad 7 (map fst (rekeyAt o k xs)) ++ pad 8 (map snd (x ∷ rekeyAt o k xs)) =
     set-append-left (pad 7 (map fst xs)) (pad 8 (map snd (x ∷ xs))) o k (omega arith) ∙
-    rw (keys-rekey o k xs, vals-rekey o k xs, set-pad 7 (map fst xs) o k b) in
+    rw (keys-rekey o k xs, vals-rekey o k xs, ← (set-pad 7 (map fst xs) o k b)) in
     rw (length-rekeyAt o k xs) (ap ((16 + (length (x ∷ xs) - 1)) ∷_) c)
-
-pub inner-key : (d : Item) (o : ℕ) (xs : List Item) → suc o < length xs → length xs ≤ 8 → getD (innerWords xs) (suc o) 0 ≡ (getD xs (suc o) d) .0
-inner-key d o [] h l = absurd (omega arith)
-inner-key d o (x ∷ xs) h l =
-    let a : length (pad 7 (map fst xs)) ≡ 7 = length-pad 7 (map fst xs) in
-    List·getD-append (pad 7 (map fst xs)) (pad 8 (map snd (x ∷ xs))) 0 o (omega arith) ∙ pad-at 7 o (map fst xs) (omega arith) ∙ at o xs (omega arith)
-  where
-    at : (o : ℕ) (xs : List Item) → o < length xs → getD (map fst xs) o 0 ≡ (getD xs o d) .0
-    at o [] h = absurd (omega arith)
-    at zero (x ∷ xs) h = refl
-    at (suc o) (x ∷ xs) h = at o xs (omega arith)
-
-pub inner-child : (d : Item) (o : ℕ) (xs : List Item) → o < length xs → length xs ≤ 8 → getD (innerWords xs) (8 + o) 0 ≡ (getD xs o d) .1
-inner-child d o xs h l =
-    let q : 8 + o ≡ suc (7 + o) = omega arith in
-    let a : length (pad 7 (map fst (drop 1 xs))) ≡ 7 = length-pad 7 (map fst (drop 1 xs)) in
-    let e : getD (pad 7 (map fst (drop 1 xs)) ++ pad 8 (map snd xs)) (7 + o) 0 ≡ getD (pad 8 (map snd xs)) o 0 =
-    ap (λ (n : ℕ). getD (pad 7 (map fst (drop 1 xs)) ++ pad 8 (map snd xs)) (n + o) 0) (sym a) ∙ getD-append-add (pad 7 (map fst (drop 1 xs))) (pad 8 (map snd xs)) o 0 in
-    rw q (e ∙ pad-at 8 o (map snd xs) (omega arith) ∙ at o xs h)
-  where
-    at : (o : ℕ) (xs : List Item) → o < length xs → getD (map snd xs) o 0 ≡ (getD xs o d) .1
-    at o [] h = absurd (omega arith)
-    at zero (x ∷ xs) h = refl
-    at (suc o) (x ∷ xs) h = at o xs (omega arith)
 
 pub inner-set′ : (o k : ℕ) (xs : List Item) → (o ≡ 0 → ⊥) → o < length xs → length xs ≤ 8 → set (innerWords xs) o k ≡ innerWords (rekeyAt o k xs)
 inner-set′ zero k xs n h l = absurd (n refl)
 inner-set′ (suc o) k xs n h l = inner-set o k xs h l
 
-pub inner-key′ : (d : Item) (o : ℕ) (xs : List Item) → (o ≡ 0 → ⊥) → o < length xs → length xs ≤ 8 → getD (innerWords xs) o 0 ≡ (getD xs o d) .0
-inner-key′ d zero xs n h l = absurd (n refl)
-inner-key′ d (suc o) xs n h l = inner-key d o xs h l
+pub inner-key′ : (o : ℕ) (xs : List Item) → (o ≡ 0 → ⊥) → o < length xs → length xs ≤ 8 → getD (innerWords xs) o 0 ≡ (getD xs o (0, 0)) .0
+inner-key′ zero xs n h l = absurd (n refl)
+inner-key′ (suc o) xs n h l = inner-key xs o (omega arith)
 
 pub path-node : (R : Row) (j : ℕ) (Ss : List Row) (ns ps : ℕ → ℕ) → Path R j Ss ns ps → ns (length Ss) ≡ numAt R j
 path-node R j [] ns ps p = p
@@ -106,7 +72,7 @@ module _ (st : Store) (ns ps : ℕ → ℕ) where
 
   pub here : (S : Row) (Ss : List Row) (i : ℕ) → i < sum (sizes S) → Fill 4 8 (sizes S) → Holds innerWords st S → ps (length Ss) ≡ offset (sizes S) i → Path S (parent (sizes S) i) Ss ns ps → Here S i (length Ss)
   here S Ss i b f hs q p =
-      let pl : parent (sizes S) i < length S = rw (length-map S size) at (parent-lt (sizes S) i b) in
+      let pl : parent (sizes S) i < length S = parent-there S i b in
       let e = length-items S (parent (sizes S) i) in
       record {
         par = pl;
@@ -132,7 +98,7 @@ module _ (st : Store) (ns ps : ℕ → ℕ) where
   rightSet-keeps R j k (S ∷ Ss) h s hs p x c =
       let u : sum (sizes S) ≡ length R = stacked-sum R S (s .0) in
       let r = here S Ss j (omega arith) (s .1) (hs .0) (p .1) (p .2) in
-      let c′ : count x (nums S) + count x (numbers Ss) ≡ 0 = rw (total-append (λ z. once (eqb x z)) (nums S) (numbers Ss)) at c in
+      let c′ : count x (nums S) + count x (numbers Ss) ≡ 0 = rw (count-append x (nums S) (numbers Ss)) at c in
       elim (test (more st ns ps (length Ss))) [
         | is e ↦ simp e (
             put-keeps st (ns (length Ss)) (set (st (ns (length Ss))) (suc (ps (length Ss))) k) (nums S)
@@ -164,7 +130,7 @@ module _ (st : Store) (ns ps : ℕ → ℕ) where
         | across x y z ↦
             let e : more st ns ps (length Ss) ≡ false = m ∙ le-ltb (suc (offset (sizes S) j)) (length (itemsAt S (parent (sizes S) j))) (omega (arith, r .wide)) in
             let n2 : suc (parent (sizes S) j) < length S =
-            rw y at (rw (length-map S size) at (parent-lt (sizes S) (suc j) (omega arith))) in
+            rw y at (parent-there S (suc j) (omega arith)) in
             simp (e, y, z, eq-eqb 0 0 refl) (
               holds-apart innerWords st (rightSet st ns ps (length Ss) k) (numbers Ss) (upd (suc (parent (sizes S) j)) (rekeyAt 0 k) S)
                   (rightSet-keeps S (parent (sizes S) j) k Ss (r .par) (s .2) (hs .1) (p .2))
@@ -180,7 +146,7 @@ module _ (st : Store) (ns ps : ℕ → ℕ) where
   leftSet-keeps R j k (S ∷ Ss) h s hs p x c =
       let u : sum (sizes S) ≡ length R = stacked-sum R S (s .0) in
       let r = here S Ss j (omega arith) (s .1) (hs .0) (p .1) (p .2) in
-      let c′ : count x (nums S) + count x (numbers Ss) ≡ 0 = rw (total-append (λ z. once (eqb x z)) (nums S) (numbers Ss)) at c in
+      let c′ : count x (nums S) + count x (numbers Ss) ≡ 0 = rw (count-append x (nums S) (numbers Ss)) at c in
       elim (test (eqb (ps (length Ss)) 0)) [
         | is e ↦ simp e (leftSet-keeps S (parent (sizes S) j) k Ss (r .par) (s .2) (hs .1) (p .2) x (omega arith))
         | isnt e ↦ simp e (
@@ -219,25 +185,25 @@ module _ (st : Store) (ns ps : ℕ → ℕ) where
       ]
 
   -- the right neighbour is the next of the row, with its key
-  pub right-is : (d : Item) (R : Row) (j : ℕ) (Ss : List Row) → suc j < length R → Stacked R Ss → HoldsUp st Ss → Path R j Ss ns ps →
-      rightSibling st ns ps (length Ss) ≡ some (getD (line R) (suc j) d)
-  right-is d R j [] h s hs p = absurd (omega arith)
-  right-is d R j (S ∷ Ss) h s hs p =
+  pub right-is : (R : Row) (j : ℕ) (Ss : List Row) → suc j < length R → Stacked R Ss → HoldsUp st Ss → Path R j Ss ns ps →
+      rightSibling st ns ps (length Ss) ≡ some (getD (line R) (suc j) (0, 0))
+  right-is R j [] h s hs p = absurd (omega arith)
+  right-is R j (S ∷ Ss) h s hs p =
       let u : sum (sizes S) ≡ length R = stacked-sum R S (s .0) in
       let r = here S Ss j (omega arith) (s .1) (hs .0) (p .1) (p .2) in
       let m = more-is r in
-      let q : getD (itemsAt S (parent (sizes S) (suc j))) (offset (sizes S) (suc j)) d ≡ getD (line R) (suc j) d =
-      sym (item-at d S (suc j) (omega arith)) ∙ alike-at d j (s .0) in
+      let q : getD (itemsAt S (parent (sizes S) (suc j))) (offset (sizes S) (suc j)) (0, 0) ≡ getD (line R) (suc j) (0, 0) =
+      sym (item-at (0, 0) S (suc j) (omega arith)) ∙ alike-at (0, 0) j (s .0) in
       elim (next (sizes S) j (fill-some 4 8 (sizes S) (omega arith) (s .1)) (omega arith)) [
         | within x y z ↦
             let g : suc (offset (sizes S) j) < length (itemsAt S (parent (sizes S) j)) = omega (arith, r .wide) in
             let e : more st ns ps (length Ss) ≡ true = m ∙ lt-ltb (suc (offset (sizes S) j)) (length (itemsAt S (parent (sizes S) j))) g in
             let q′ = rw (y, z) at q in
-            simp e (simp (r .words, r .place, inner-key d (offset (sizes S) j) (itemsAt S (parent (sizes S) j)) g (r .few), inner-child d (suc (offset (sizes S) j)) (itemsAt S (parent (sizes S) j)) g (r .few))
+            simp e (simp (r .words, r .place, inner-key (itemsAt S (parent (sizes S) j)) (offset (sizes S) j) (omega (arith, r .few)), inner-child (itemsAt S (parent (sizes S) j)) (suc (offset (sizes S) j)) (omega (arith, r .few)))
             (ap some q′))
         | across x y z ↦
             let e : more st ns ps (length Ss) ≡ false = m ∙ le-ltb (suc (offset (sizes S) j)) (length (itemsAt S (parent (sizes S) j))) (omega (arith, r .wide)) in
-            let n2 : suc (parent (sizes S) j) < length S = rw y at (rw (length-map S size) at (parent-lt (sizes S) (suc j) (omega arith))) in
+            let n2 : suc (parent (sizes S) j) < length S = rw y at (parent-there S (suc j) (omega arith)) in
             let q′ = rw (y, z) at q in
             let l2 = length-items S (suc (parent (sizes S) j)) in
             let one : 1 ≤ length (itemsAt S (suc (parent (sizes S) j))) =
@@ -245,15 +211,15 @@ module _ (st : Store) (ns ps : ℕ → ℕ) where
             let w : st (numAt S (suc (parent (sizes S) j))) ≡ innerWords (itemsAt S (suc (parent (sizes S) j))) = holds-at innerWords st S (suc (parent (sizes S) j)) n2 (hs .0) in
             simp (
               e,
-              right-is d S (parent (sizes S) j) Ss n2 (s .2) (hs .1) (p .2),
-              line-at d S (suc (parent (sizes S) j)) n2,
+              right-is S (parent (sizes S) j) Ss n2 (s .2) (hs .1) (p .2),
+              line-at (0, 0) S (suc (parent (sizes S) j)) n2,
               w,
-              inner-child d 0 (itemsAt S (suc (parent (sizes S) j))) one (rw l2 (fill-at 4 8 (sizes S) (suc (parent (sizes S) j)) (s .1))),
+              inner-child (itemsAt S (suc (parent (sizes S) j))) 0 (omega arith),
             )
             (ap some (whole (itemsAt S (suc (parent (sizes S) j))) one ∙ q′))
       ]
     where
-      whole : (xs : List Item) → 1 ≤ length xs → _≡_ {A = Item} (front xs, (getD xs 0 d) .1) (getD xs 0 d)
+      whole : (xs : List Item) → 1 ≤ length xs → _≡_ {A = Item} (front xs, (getD xs 0 (0, 0)) .1) (getD xs 0 (0, 0))
       whole [] h = absurd (omega arith)
       whole (x ∷ xs) h = refl
 
@@ -278,18 +244,14 @@ module _ (st : Store) (ns ps : ℕ → ℕ) where
       elim (next (sizes S) j (fill-some 4 8 (sizes S) (omega arith) (s .1)) (omega arith)) [
         | within x y z ↦
             let t : eqb (ps (length Ss)) 0 ≡ false = rw (r .place, z) (ne-eqb (suc (offset (sizes S) j)) 0 (omega arith)) in
-            simp t (rw (r .words, r .place) (ap some (inner-key′ (0, 0) (offset (sizes S) (suc j)) (itemsAt S (parent (sizes S) (suc j))) (λ o. let v = sym z ∙ o in omega arith) (r .off) (r .few) ∙ k)))
+            simp t (rw (r .words, r .place) (ap some (inner-key′ (offset (sizes S) (suc j)) (itemsAt S (parent (sizes S) (suc j))) (λ o. let v = sym z ∙ o in omega arith) (r .off) (r .few) ∙ k)))
         | across x y z ↦
             let t : eqb (ps (length Ss)) 0 ≡ true = rw (r .place, z) refl in
             let n2 : suc (parent (sizes S) j) < length S = rw y at (r .par) in
             let k′ = rw (y, z) at k in
             let one = rw (y, z) at (r .off) in
-            simp (t, crit-is S (parent (sizes S) j) Ss n2 (s .2) (hs .1) (rw y at (p .2))) (ap some (head (itemsAt S (suc (parent (sizes S) j))) one ∙ k′))
+            simp (t, crit-is S (parent (sizes S) j) Ss n2 (s .2) (hs .1) (rw y at (p .2))) (ap some (front-first (itemsAt S (suc (parent (sizes S) j))) one ∙ k′))
       ]
-    where
-      head : (xs : List Item) → 1 ≤ length xs → front xs ≡ (getD xs 0 (0, 0)) .0
-      head [] h = absurd (omega arith)
-      head (x ∷ xs) h = refl
 
   pub crit-none : (R : Row) (Ss : List Row) → 1 ≤ length R → Stacked R Ss → HoldsUp st Ss → Path R 0 Ss ns ps → critKey st ns ps (length Ss) ≡ none
   crit-none R [] h s hs p = refl

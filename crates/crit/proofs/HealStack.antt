@@ -10,9 +10,10 @@ use borrow.Author.Tests.{lt-ltb, ltb-true, ltb-false, eqb-true, eqb-false}
 use Rattle.forest.specs.Lists.{removeAt, sum, parent, offset}
 use Rattle.forest.specs.Pairs.{Item}
 use Rattle.forest.specs.Rows.{Row, size, front, nums, sizes, joined, line, itemsAt, Fill, rekey, refresh}
-use Rattle.forest.proofs.ListLaws.{is, isnt, test, map-removeAt, parent-lt, offset-lt}
-use Rattle.forest.proofs.RowLaws.{sum-sizes, length-line, length-items}
-use Rattle.crit.proofs.HealRows.{upd, rekeyAt, length-rekeyAt, rekeyed-joined, upd-line, upd-nums, upd-sizes, line-at}
+use Rattle.forest.proofs.ListLaws.{is, isnt, test, map-removeAt}
+use Rattle.forest.proofs.RowLaws.{sum-sizes, length-line, parent-there, offset-there}
+use Rattle.crit.proofs.HealRows.{upd, rekeyAt, length-rekeyAt, rekeyed-joined, upd-line, upd-nums, upd-sizes}
+pub use Rattle.pool.proofs.Held.{line-same}
 pub use Rattle.crit.specs.Paths.{val, Alike, Stacked}
 
 -- Groups: the place after i
@@ -79,6 +80,10 @@ some-at [] i p h = absurd (omega arith)
 some-at (g ∷ gs) zero p h = p .0
 some-at (g ∷ gs) (suc i) p h = some-at gs i (p .1) (omega arith)
 
+pub some-sum : (gs : List ℕ) → Some gs → 1 ≤ length gs → 1 ≤ sum gs
+some-sum [] p h = absurd (omega arith)
+some-sum (g ∷ gs) p h = omega arith
+
 pub alike-same : {xs ys : List Item} → xs ≡ ys → Alike xs ys
 alike-same e = record { vals = ap (map val) e; rest = ap (drop 1) e }
 
@@ -105,7 +110,7 @@ drop-rekey : (i k : ℕ) (xs : List Item) → drop 1 (rekeyAt (suc i) k xs) ≡ 
 drop-rekey i k [] = refl
 drop-rekey i k (x ∷ xs) = refl
 
-vals-rekey : (i k : ℕ) (xs : List Item) → map val (rekeyAt i k xs) ≡ map val xs
+pub vals-rekey : (i k : ℕ) (xs : List Item) → map val (rekeyAt i k xs) ≡ map val xs
 vals-rekey i k [] = refl
 vals-rekey zero k (x ∷ xs) = refl
 vals-rekey (suc i) k (x ∷ xs) = ap (x .1 ∷_) (vals-rekey i k xs)
@@ -139,12 +144,6 @@ alike-remove {xs} {ys} (suc i) a = record {
   rest = rest-remove i xs ∙ ap (removeAt i) (a .rest) ∙ sym (rest-remove i ys);
 }
 
--- a key that stands there already
-pub rekey-same : (d : Item) (i : ℕ) (xs : List Item) → rekeyAt i ((getD xs i d) .0) xs ≡ xs
-rekey-same d i [] = refl
-rekey-same d zero (x ∷ xs) = refl
-rekey-same d (suc i) (x ∷ xs) = ap (x ∷_) (rekey-same d i xs)
-
 pub stacked-line : (R R′ : Row) (Ss : List Row) → Alike (line R) (line R′) → Stacked R Ss → Stacked R′ Ss
 stacked-line R R′ [] a s = sym (length-line R′) ∙ sym (alike-length a) ∙ length-line R ∙ s
 stacked-line R R′ (S ∷ Ss) a s = (alike-trans (s .0) a, s .1, s .2)
@@ -167,10 +166,6 @@ front-later : (i k : ℕ) (xs : List Item) → front (rekeyAt (suc i) k xs) ≡ 
 front-later i k [] = refl
 front-later i k (x ∷ xs) = refl
 
-pub line-keep : (j : ℕ) (f : List Item → List Item) (R : Row) → j < length R → front (f (itemsAt R j)) ≡ front (itemsAt R j) → line (upd j f R) ≡ line R
-line-keep j f R h e =
-    upd-line j f R ∙ ap (λ (k : ℕ). rekeyAt j k (line R)) (e ∙ sym (ap (λ (x : Item). x .0) (line-at (0, 0) R j h))) ∙ rekey-same (0, 0) j (line R)
-
 pub setKey-stacked : (R R′ : Row) (Ss : List Row) (i k : ℕ) → i < length R → Alike (rekeyAt i k (line R)) (line R′) → Stacked R Ss → Stacked R′ (setKey i k Ss)
 setKey-stacked R R′ [] i k h a s = sym (length-line R′) ∙ sym (alike-length a) ∙ length-rekeyAt i k (line R) ∙ length-line R ∙ s
 setKey-stacked R R′ (S ∷ Ss) i k h a s =
@@ -178,8 +173,8 @@ setKey-stacked R R′ (S ∷ Ss) i k h a s =
     let b : i < sum (sizes S) = omega arith in
     let par = parent (sizes S) i in
     let off = offset (sizes S) i in
-    let pl : parent (sizes S) i < length S = rw (length-map S size) at (parent-lt (sizes S) i b) in
-    let ol : offset (sizes S) i < length (itemsAt S (parent (sizes S) i)) = rw (length-items S (parent (sizes S) i)) (offset-lt (sizes S) i b) in
+    let pl : parent (sizes S) i < length S = parent-there S i b in
+    let ol : offset (sizes S) i < length (itemsAt S (parent (sizes S) i)) = offset-there S i b in
     let S′ = upd (parent (sizes S) i) (rekeyAt (offset (sizes S) i) k) S in
     let z : sizes S′ ≡ sizes S = upd-sizes (parent (sizes S) i) (rekeyAt (offset (sizes S) i) k) S (length-rekeyAt (offset (sizes S) i) k (itemsAt S (parent (sizes S) i))) in (
       alike-trans (alike-trans (alike-same (rekeyed-joined k S i b)) (alike-rekey i k (s .0))) a,
@@ -191,7 +186,7 @@ setKey-stacked R R′ (S ∷ Ss) i k h a s =
             setKey-stacked S S′ Ss (parent (sizes S) i) k pl
             (alike-same (sym (upd-line (parent (sizes S) i) (rekeyAt (offset (sizes S) i) k) S ∙ ap (λ (x : ℕ). rekeyAt (parent (sizes S) i) x (line S)) f))) (s .2))
         | isnt e ↦ simp e (
-            stacked-line S S′ Ss (alike-same (sym (line-keep (parent (sizes S) i) (rekeyAt (offset (sizes S) i) k) S pl (later (offset (sizes S) i) (eqb-false _ _ e) (itemsAt S (parent (sizes S) i)))))) (s .2))
+            stacked-line S S′ Ss (alike-same (sym (line-same (parent (sizes S) i) (rekeyAt (offset (sizes S) i) k) S (later (offset (sizes S) i) (eqb-false _ _ e) (itemsAt S (parent (sizes S) i)))))) (s .2))
       ],
     )
   where

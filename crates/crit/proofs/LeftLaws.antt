@@ -1,9 +1,9 @@
 -- PROOFS. The key before a node: read, set, handed to the right neighbour
-use mathlib.Core.Path.{_≡_, sym, _∙_, subst}
+use mathlib.Core.Path.{_≡_, refl, sym, ap, _∙_, subst}
 use mathlib.Core.List.{List}
 use mathlib.Core.Bool.{true, false}
-use mathlib.Core.Option.{none, some}
-use Prim.Native.Nat.{ℕ, zero, suc, _-_, _≤_, _<_}
+use mathlib.Core.Option.{some}
+use Prim.Native.Nat.{ℕ, zero, suc, _≤_, _<_}
 use native.Mathlib.Omega.{arith}
 use lib.ListN.{getD, set, length-set}
 use lib.Dec.{eqb}
@@ -13,14 +13,9 @@ use Rattle.pool.specs.Stores.{block, withBlock}
 use Rattle.crit.specs.States.{stored, rightSet, leftSet, critKey, handKey}
 use Rattle.crit.specs.Asks.{Mem, moved, Spelt, Way, Leaves, Crits, critOf}
 use Rattle.crit.specs.declared.Crit.{Crit}
+use Rattle.crit.specs.declared.Crit.the-variants.{Key, Nothing}
 use Rattle.crit.proofs.SpeltLaws.{spelt-store}
 use Rattle.crit.proofs.WayLaws.{way-at, way-block}
-
-crit-some : (r : Crit) → r .there ≡ true → critOf r ≡ some (r .key)
-crit-some r e = simp e
-
-crit-none : (r : Crit) → r .there ≡ false → critOf r ≡ none
-crit-none r e = simp e
 
 module _ {ws : List ℕ} {t : ℕ} {c : Cursor} {level : ℕ} (y : Way ws t c level) (l : ℕ) (e : suc l ≡ level) where
   first-yes : (m : Mem) → Spelt ws t c m → getD (c .places) l 0 ≡ 0 → eqb (m .s .ps l) 0 ≡ true
@@ -30,14 +25,13 @@ module _ {ws : List ℕ} {t : ℕ} {c : Cursor} {level : ℕ} (y : Way ws t c le
   first-no m sp h = ne-eqb (m .s .ps l) 0 (λ q. h (sp .places l (omega (arith, y .deep)) ∙ q))
 
   -- current_crit_key
-  pub crit-here : (w : List ℕ) (p : ℕ) (r : Crit) → w ≡ block ws t (getD (c .nodes) l 0) → p ≡ getD (c .places) l 0 → (p ≡ 0 → ⊥) → r .there ≡ true → r .key ≡ getD w p 0 → Crits ws t c level r
-  crit-here w p r q a h x k = record {
+  pub crit-here : (w : List ℕ) (p : ℕ) → w ≡ block ws t (getD (c .nodes) l 0) → p ≡ getD (c .places) l 0 → (p ≡ 0 → ⊥) → Crits ws t c level (Key (getD w p 0))
+  crit-here w p q a h = record {
     run = λ m sp.
         let b : w ≡ m .s .st (m .s .ns l) = q ∙ way-block y m sp l (omega arith) in
         let a2 : p ≡ m .s .ps l = a ∙ sp .places l (omega (arith, y .deep)) in
         let f = first-no m sp (λ z. h (a ∙ z)) in
-        let k2 : r .key ≡ getD (m .s .st (m .s .ns l)) (m .s .ps l) 0 = k ∙ rw (b, a2) in
-        crit-some r x ∙ subst (λ (z : ℕ). some (r .key) ≡ critKey (m .s .st) (m .s .ns) (m .s .ps) z) e (simp f (rw k2));
+        subst (λ (z : ℕ). some (getD w p 0) ≡ critKey (m .s .st) (m .s .ns) (m .s .ps) z) e (simp f (rw (b, a2)));
   }
 
   pub crit-up : (p : ℕ) (r : Crit) → p ≡ getD (c .places) l 0 → p ≡ 0 → Crits ws t c l r → Crits ws t c level r
@@ -71,18 +65,18 @@ module _ {ws : List ℕ} {t : ℕ} {c : Cursor} {level : ℕ} (y : Way ws t c le
         subst (λ (z : ℕ). Spelt vs t c (moved m (stored (m .s) (leftSet (m .s .st) (m .s .ns) (m .s .ps) z k)))) e (simp f (g .run m sp));
   }
 
-pub crit-root : {ws : List ℕ} {t : ℕ} {c : Cursor} (r : Crit) (level : ℕ) → level ≤ 0 → r .there ≡ false → Crits ws t c level r
-crit-root r zero h x = record { run = λ m sp. crit-none r x }
-crit-root r (suc l) h x = absurd (omega arith)
+pub crit-root : {ws : List ℕ} {t : ℕ} {c : Cursor} (level : ℕ) → level ≤ 0 → Crits ws t c level Nothing
+crit-root zero h = record { run = λ m sp. refl }
+crit-root (suc l) h = absurd (omega arith)
 
 pub left-root : {ws : List ℕ} {t : ℕ} {c : Cursor} (k level : ℕ) → level ≤ 0 → Leaves (λ s. stored s (leftSet (s .st) (s .ns) (s .ps) level k)) ws ws t c c
 left-root k zero h = record { run = λ m sp. sp }
 left-root k (suc l) h = absurd (omega arith)
 
 -- hand_crit_key
-pub hand-some : {ws vs : List ℕ} {t : ℕ} {c : Cursor} {level : ℕ} (r : Crit) → Crits ws t c level r → r .there ≡ true → Leaves (λ s. stored s (rightSet (s .st) (s .ns) (s .ps) level (r .key))) ws vs t c c →
+pub hand-some : {ws vs : List ℕ} {t : ℕ} {c : Cursor} {level : ℕ} (r : Crit) (k : ℕ) → Crits ws t c level r → r ≡ Key k → Leaves (λ s. stored s (rightSet (s .st) (s .ns) (s .ps) level k)) ws vs t c c →
     Leaves (λ s. stored s (handKey (s .st) (s .ns) (s .ps) level)) ws vs t c c
-hand-some {ws} {vs} {t} {c} {level} r g x f = record { run = λ m sp. rw (sym (g .run m sp) ∙ crit-some r x) (f .run m sp) }
+hand-some {ws} {vs} {t} {c} {level} r k g x f = record { run = λ m sp. rw (sym (g .run m sp) ∙ ap critOf x) (f .run m sp) }
 
-pub hand-none : {ws : List ℕ} {t : ℕ} {c : Cursor} {level : ℕ} (r : Crit) → Crits ws t c level r → r .there ≡ false → Leaves (λ s. stored s (handKey (s .st) (s .ns) (s .ps) level)) ws ws t c c
-hand-none {ws} {t} {c} {level} r g x = record { run = λ m sp. rw (sym (g .run m sp) ∙ crit-none r x) sp }
+pub hand-none : {ws : List ℕ} {t : ℕ} {c : Cursor} {level : ℕ} (r : Crit) → Crits ws t c level r → r ≡ Nothing → Leaves (λ s. stored s (handKey (s .st) (s .ns) (s .ps) level)) ws ws t c c
+hand-none {ws} {t} {c} {level} r g x = record { run = λ m sp. rw (sym (g .run m sp) ∙ ap critOf x) sp }

@@ -1,11 +1,11 @@
 -- PROOFS. The path to the right neighbour, next_node, and the end of empty_node
 use mathlib.Core.Path.{_≡_, refl, sym, ap, _∙_, subst}
 use mathlib.Core.List.{List, [], _∷_}
-use mathlib.Core.Bool.{true, false}
+use mathlib.Core.Bool.{false}
 use mathlib.Core.Option.{none, some}
 use Prim.Native.Nat.{ℕ, zero, suc, _+_, _-_, _≤_, _<_}
 use native.Mathlib.Omega.{arith}
-use lib.ListN.{length, getD, set, length-set, length-map}
+use lib.ListN.{length, getD, set, length-set}
 use lib.Seq.{getD-set-same, getD-set-other}
 use lib.Dec.{ltb, eqb}
 use borrow.Author.Tests.{ltb-true, ltb-false, eqb-true, eqb-false}
@@ -13,18 +13,20 @@ use Rattle.forest.specs.Lists.{sum, count, parent, offset}
 use Rattle.forest.specs.Rows.{Row, size, sizes}
 use Rattle.forest.specs.Trees.{numbers}
 use Rattle.forest.specs.declared.Cursor.{Cursor}
-use Rattle.forest.proofs.ListLaws.{is, isnt, test, parent-lt}
+use Rattle.forest.proofs.ListLaws.{is, isnt, test}
 use Rattle.pool.specs.Stores.{block, Placed}
 use Rattle.crit.specs.States.{State, at, more, rightSibling, nextAt, nextPath, nextNode, nextWith, nodeAt, lives}
 use Rattle.crit.specs.Paths.{numAt, Stacked, HoldsUp, Path}
-use Rattle.crit.specs.Asks.{Mem, moved, Spelt, Way, Goes, Leaves, Finds, Settles}
+use Rattle.crit.specs.Asks.{Mem, moved, Spelt, Way, Goes, Leaves, Finds, nearOf, Passes}
 use Rattle.crit.specs.declared.Near.{Near}
+use Rattle.crit.specs.declared.Near.the-variants.{Right, Nothing}
 use Rattle.crit.proofs.HealStack
 use Rattle.crit.proofs.HealPath
 use Rattle.crit.proofs.HealNext
 use Rattle.crit.proofs.SpeltLaws.{spelt-block, spelt-placed, same-count}
 use Rattle.crit.proofs.WayLaws.{way-block, named-row, named-rest}
-use Rattle.crit.proofs.RightLaws.{more-yes, more-no, near-some, near-none}
+use Rattle.crit.proofs.RightLaws.{more-yes, more-no}
+use Rattle.forest.proofs.RowLaws.{parent-there}
 
 -- one number of a list changes
 pub set-at : (xs : List ℕ) (f : ℕ → ℕ) (i v : ℕ) → length xs ≡ 16 → i < 16 → ((l : ℕ) → l < 16 → getD xs l 0 ≡ f l) → (l : ℕ) → l < 16 → getD (set xs i v) l 0 ≡ at f i v l
@@ -101,7 +103,7 @@ module _ {ws : List ℕ} {t : ℕ} {c : Cursor} {level : ℕ} (g : Goes ws t c l
             let f : ltb (suc (offset (sizes S) (g .way .at))) (length (Rattle.forest.specs.Rows.itemsAt S (parent (sizes S) (g .way .at)))) ≡ false = sym mi ∙ mo2 in
             let k = ltb-false (suc (offset (sizes S) (g .way .at))) (length (Rattle.forest.specs.Rows.itemsAt S (parent (sizes S) (g .way .at)))) f in
             absurd (omega (arith, r .wide))
-        | HealStack.across x v w ↦ rw v at (rw (length-map S size) at (parent-lt (sizes S) (suc (g .way .at)) (omega (arith, g .more))))
+        | HealStack.across x v w ↦ rw v at (parent-there S (suc (g .way .at)) (omega (arith, g .more)))
       ]
 
   pub goes-up : (w : List ℕ) (p : ℕ) → w ≡ block ws t (getD (c .nodes) l 0) → p ≡ getD (c .places) l 0 → getD w 0 0 ≤ p + 16 → Goes ws t c l
@@ -121,7 +123,7 @@ module _ {ws : List ℕ} {t : ℕ} {c : Cursor} {level : ℕ} (g : Goes ws t c l
               at = parent (sizes S) (g .way .at);
               rows = Ss;
               levels = omega arith;
-              inside = rw (length-map S size) at (parent-lt (sizes S) (g .way .at) (omega (arith, g .way .inside)));
+              inside = parent-there S (g .way .at) (omega (arith, g .way .inside));
               stacked = s .2;
               named = named-rest (g .way .mem .count) S Ss nm;
               up = u .1;
@@ -173,39 +175,39 @@ path-root zero h = record { run = λ m sp. sp }
 path-root (suc l) h = absurd (omega arith)
 
 -- next_node
-pub goes-right : {ws : List ℕ} {t : ℕ} {c : Cursor} {level : ℕ} (y : Way ws t c level) (near : Near) → Finds ws t c level near → near .there ≡ true → Goes ws t c level
-goes-right {level} y near f x = elim (test (ltb (suc (y .at)) (length (y .row)))) [
+pub goes-right : {ws : List ℕ} {t : ℕ} {c : Cursor} {level : ℕ} (y : Way ws t c level) (near : Near) (k n : ℕ) → Finds ws t c level near → near ≡ Right k n → Goes ws t c level
+goes-right {level} y near k n f x = elim (test (ltb (suc (y .at)) (length (y .row)))) [
   | is e ↦ record { way = y; more = ltb-true _ _ e }
   | isnt e ↦
       let z : suc (y .at) ≡ length (y .row) = (let k = ltb-false (suc (y .at)) (length (y .row)) e in omega (arith, y .inside)) in
       let r = HealPath.right-none (y .mem .s .st) (y .mem .s .ns) (y .mem .s .ps) (y .row) (y .at) (y .rows) z (y .stacked) (y .up) (y .path) in
       let r2 : rightSibling (y .mem .s .st) (y .mem .s .ns) (y .mem .s .ps) level ≡ none = rw (y .levels) at r in
-      absurd (let k : _≡_ {A = ℕ} 0 1 = cc (r2, f .run (y .mem) (y .spelt), near-some near x) in omega arith)
+      absurd (let k : _≡_ {A = ℕ} 0 1 = cc (r2, f .run (y .mem) (y .spelt), ap nearOf x) in omega arith)
 ]
 
-pub next-some : {ws : List ℕ} {t : ℕ} {c d r : Cursor} {level : ℕ} (near : Near) → level < 16 → Finds ws t c level near → near .there ≡ true → Leaves (nextPath level) ws ws t c d →
+pub next-some : {ws : List ℕ} {t : ℕ} {c d r : Cursor} {level : ℕ} (near : Near) (k n : ℕ) → level < 16 → Finds ws t c level near → near ≡ Right k n → Leaves (nextPath level) ws ws t c d →
     r .nodes ≡ d .nodes → r .places ≡ set (d .places) level 0 → r .tree ≡ d .tree → r .size ≡ d .size → Leaves (nextNode level) ws ws t c r
-next-some {ws} {t} {c} {d} {r} {level} near b f x g ns ps tr sz = record {
+next-some {ws} {t} {c} {d} {r} {level} near k n b f x g ns ps tr sz = record {
   run = λ m sp.
       let q = g .run m sp in
-      rw (sym (f .run m sp) ∙ near-some near x) (
-      spelt-path q (nextWith (some (near .key, near .node)) level (m .s)) refl refl refl
+      rw (sym (f .run m sp) ∙ ap nearOf x) (
+      spelt-path q (nextWith (some (k, n)) level (m .s)) refl refl refl
       (λ i h. rw ns (q .nodes i h)) (λ i h. rw ps (set-at (d .places) ((nextAt (m .s .st) (m .s .ns) (m .s .ps) level) .1) level 0 (q .wide) b (q .places) i h))
       (ap length ns ∙ q .long) (ap length ps ∙ length-set (d .places) level 0 ∙ q .wide) tr sz);
 }
 
-pub next-none : {ws : List ℕ} {t : ℕ} {c r : Cursor} {level : ℕ} (near : Near) → Finds ws t c level near → near .there ≡ false → r .nodes ≡ c .nodes → r .places ≡ c .places → r .tree ≡ c .tree → r .size ≡ 0 → Leaves (nextNode level) ws ws t c r
-next-none {ws} {t} {c} {r} {level} near f x a b tr z = record { run = λ m sp. rw (sym (f .run m sp) ∙ near-none near x) (spelt-off sp a b tr z) }
+pub next-none : {ws : List ℕ} {t : ℕ} {c r : Cursor} {level : ℕ} (near : Near) → Finds ws t c level near → near ≡ Nothing → r .nodes ≡ c .nodes → r .places ≡ c .places → r .tree ≡ c .tree → r .size ≡ 0 → Leaves (nextNode level) ws ws t c r
+next-none {ws} {t} {c} {r} {level} near f x a b tr z = record { run = λ m sp. rw (sym (f .run m sp) ∙ ap nearOf x) (spelt-off sp a b tr z) }
 
--- settle
-pub settles-some : {c r : Cursor} {level : ℕ} (near : Near) → level < 16 → near .there ≡ true → r .nodes ≡ set (c .nodes) level (near .node) → r .places ≡ c .places → r .tree ≡ c .tree → r .size ≡ c .size → Settles c r level near
-settles-some {c} {r} {level} near d e a b tr z = record {
+-- through_right
+pub passes-some : {c r : Cursor} {level : ℕ} (near : Near) (k n : ℕ) → level < 16 → near ≡ Right k n → r .nodes ≡ set (c .nodes) level n → r .places ≡ c .places → r .tree ≡ c .tree → r .size ≡ c .size → Passes c r level near
+passes-some {c} {r} {level} near k n d e a b tr z = record {
   run = λ ws t m sp.
-      rw (near-some near e) (
-      spelt-path sp (nodeAt (m .s) level (near .node)) refl refl refl
-      (λ i h. rw a (set-at (c .nodes) (m .s .ns) level (near .node) (sp .long) d (sp .nodes) i h)) (λ i h. rw b (sp .places i h))
-      (ap length a ∙ length-set (c .nodes) level (near .node) ∙ sp .long) (ap length b ∙ sp .wide) tr z);
+      rw e (
+      spelt-path sp (nodeAt (m .s) level n) refl refl refl
+      (λ i h. rw a (set-at (c .nodes) (m .s .ns) level n (sp .long) d (sp .nodes) i h)) (λ i h. rw b (sp .places i h))
+      (ap length a ∙ length-set (c .nodes) level n ∙ sp .long) (ap length b ∙ sp .wide) tr z);
 }
 
-pub settles-none : {c r : Cursor} {level : ℕ} (near : Near) → near .there ≡ false → r .nodes ≡ c .nodes → r .places ≡ c .places → r .tree ≡ c .tree → r .size ≡ 0 → Settles c r level near
-settles-none {c} {r} {level} near e a b tr z = record { run = λ ws t m sp. rw (near-none near e) (spelt-off sp a b tr z) }
+pub passes-none : {c r : Cursor} {level : ℕ} (near : Near) → near ≡ Nothing → r .nodes ≡ c .nodes → r .places ≡ c .places → r .tree ≡ c .tree → r .size ≡ 0 → Passes c r level near
+passes-none {c} {r} {level} near e a b tr z = record { run = λ ws t m sp. rw e (spelt-off sp a b tr z) }

@@ -1,5 +1,5 @@
 -- PROOFS. Each return of right_sibling, and of the setting of a key, is one step of its definition
-use mathlib.Core.Path.{_≡_, sym, ap, _∙_, subst}
+use mathlib.Core.Path.{_≡_, refl, sym, ap, _∙_, subst}
 use mathlib.Core.List.{List}
 use mathlib.Core.Bool.{true, false}
 use mathlib.Core.Option.{none, some}
@@ -12,14 +12,9 @@ use Rattle.pool.specs.Stores.{block, withBlock, Placed}
 use Rattle.crit.specs.States.{stored, more, rightSibling, rightSet}
 use Rattle.crit.specs.Asks.{Mem, moved, Spelt, Way, Leaves, Finds, nearOf}
 use Rattle.crit.specs.declared.Near.{Near}
+use Rattle.crit.specs.declared.Near.the-variants.{Right, Nothing}
 use Rattle.crit.proofs.SpeltLaws.{spelt-block, spelt-placed, spelt-store, same-count}
 use Rattle.crit.proofs.WayLaws.{way-at, way-block, way-right}
-
-pub near-some : (near : Near) → near .there ≡ true → nearOf near ≡ some (near .key, near .node)
-near-some near e = simp e
-
-pub near-none : (near : Near) → near .there ≡ false → nearOf near ≡ none
-near-none near e = simp e
 
 module _ {ws : List ℕ} {t : ℕ} {c : Cursor} {level : ℕ} (y : Way ws t c level) (l : ℕ) (e : suc l ≡ level) where
   -- is there more to the right, by the words
@@ -38,47 +33,43 @@ module _ {ws : List ℕ} {t : ℕ} {c : Cursor} {level : ℕ} (y : Way ws t c le
       le-ltb (m .s .ps l) (getD (m .s .st (m .s .ns l)) 0 0 - 16) (omega arith)
 
   -- right_sibling
-  pub right-here : (w : List ℕ) (p : ℕ) (near : Near) → w ≡ block ws t (getD (c .nodes) l 0) → p ≡ getD (c .places) l 0 → p + 16 < getD w 0 0 → near .there ≡ true → near .key ≡ getD w (1 + p) 0 → near .node ≡ getD w (9 + p) 0 →
-      Finds ws t c level near
-  right-here w p near q a h x k n = record {
+  pub right-here : (w : List ℕ) (p : ℕ) → w ≡ block ws t (getD (c .nodes) l 0) → p ≡ getD (c .places) l 0 → p + 16 < getD w 0 0 → Finds ws t c level (Right (getD w (1 + p) 0) (getD w (9 + p) 0))
+  right-here w p q a h = record {
     run = λ m sp.
         let d : l < 16 = omega (arith, y .deep) in
         let b : w ≡ m .s .st (m .s .ns l) = q ∙ way-block y m sp l (omega arith) in
         let a2 : p ≡ m .s .ps l = a ∙ sp .places l d in
         let mo = more-yes m sp (rw (q, a) at h) in
-        let k2 : near .key ≡ getD (m .s .st (m .s .ns l)) (suc (m .s .ps l)) 0 = k ∙ rw (b, a2) (ap (λ (i : ℕ). getD (m .s .st (m .s .ns l)) i 0) (omega arith)) in
-        let n2 : near .node ≡ getD (m .s .st (m .s .ns l)) (8 + suc (m .s .ps l)) 0 = n ∙ rw (b, a2) (ap (λ (i : ℕ). getD (m .s .st (m .s .ns l)) i 0) (omega arith)) in
-        near-some near x ∙ subst (λ (z : ℕ). some (near .key, near .node) ≡ rightSibling (m .s .st) (m .s .ns) (m .s .ps) z) e (simp mo (rw (k2, n2)));
+        let k2 : getD w (1 + p) 0 ≡ getD (m .s .st (m .s .ns l)) (suc (m .s .ps l)) 0 = rw (b, a2) (ap (λ (i : ℕ). getD (m .s .st (m .s .ns l)) i 0) (omega arith)) in
+        let n2 : getD w (9 + p) 0 ≡ getD (m .s .st (m .s .ns l)) (8 + suc (m .s .ps l)) 0 = rw (b, a2) (ap (λ (i : ℕ). getD (m .s .st (m .s .ns l)) i 0) (omega arith)) in
+        subst (λ (z : ℕ). some (getD w (1 + p) 0, getD w (9 + p) 0) ≡ rightSibling (m .s .st) (m .s .ns) (m .s .ps) z) e (simp mo (rw (k2, n2)));
   }
 
-  pub right-up : (w : List ℕ) (p : ℕ) (v : List ℕ) (above near : Near) → w ≡ block ws t (getD (c .nodes) l 0) → p ≡ getD (c .places) l 0 → getD w 0 0 ≤ p + 16 → Finds ws t c l above → above .there ≡ true →
-      v ≡ block ws t (above .node) → near .there ≡ true → near .key ≡ above .key → near .node ≡ getD v 8 0 → Finds ws t c level near
-  right-up w p v above near q a h f x g x2 k n = record {
+  pub right-up : (w : List ℕ) (p : ℕ) (v : List ℕ) (near : Near) (k n : ℕ) → w ≡ block ws t (getD (c .nodes) l 0) → p ≡ getD (c .places) l 0 → getD w 0 0 ≤ p + 16 → Finds ws t c l near → near ≡ Right k n →
+      v ≡ block ws t n → Finds ws t c level (Right k (getD v 8 0))
+  right-up w p v near k n q a h f x g = record {
     run = λ m sp.
-        let own : rightSibling (y .mem .s .st) (y .mem .s .ns) (y .mem .s .ps) l ≡ some (above .key, above .node) = sym (f .run (y .mem) (y .spelt)) ∙ near-some above x in
-        let r = way-right y l e (above .key, above .node) own in
+        let r = way-right y l e (k, n) (sym (f .run (y .mem) (y .spelt)) ∙ ap nearOf x) in
         let cn : y .mem .count ≡ m .count = same-count (y .spelt) sp in
-        let b : v ≡ m .s .st (above .node) = g ∙ spelt-block sp (above .node) (r .0) (omega arith) in
+        let b : v ≡ m .s .st n = g ∙ spelt-block sp n (r .0) (omega arith) in
         let mo = more-no m sp (rw (q, a) at h) in
-        let rs : rightSibling (m .s .st) (m .s .ns) (m .s .ps) l ≡ some (above .key, above .node) = sym (f .run m sp) ∙ near-some above x in
-        let n2 : near .node ≡ getD (m .s .st (above .node)) 8 0 = n ∙ rw b in
-        near-some near x2 ∙ subst (λ (z : ℕ). some (near .key, near .node) ≡ rightSibling (m .s .st) (m .s .ns) (m .s .ps) z) e (simp (mo, rs) (rw (k, n2)));
+        let rs : rightSibling (m .s .st) (m .s .ns) (m .s .ps) l ≡ some (k, n) = sym (f .run m sp) ∙ ap nearOf x in
+        subst (λ (z : ℕ). some (k, getD v 8 0) ≡ rightSibling (m .s .st) (m .s .ns) (m .s .ps) z) e (simp (mo, rs) (rw b));
   }
 
-  pub right-off : (w : List ℕ) (p : ℕ) (above : Near) → w ≡ block ws t (getD (c .nodes) l 0) → p ≡ getD (c .places) l 0 → getD w 0 0 ≤ p + 16 → Finds ws t c l above → above .there ≡ false → Finds ws t c level above
-  right-off w p above q a h f x = record {
+  pub right-off : (w : List ℕ) (p : ℕ) (near : Near) → w ≡ block ws t (getD (c .nodes) l 0) → p ≡ getD (c .places) l 0 → getD w 0 0 ≤ p + 16 → Finds ws t c l near → near ≡ Nothing → Finds ws t c level Nothing
+  right-off w p near q a h f x = record {
     run = λ m sp.
         let mo = more-no m sp (rw (q, a) at h) in
-        let rs : rightSibling (m .s .st) (m .s .ns) (m .s .ps) l ≡ none = sym (f .run m sp) ∙ near-none above x in
-        near-none above x ∙ subst (λ (z : ℕ). none ≡ rightSibling (m .s .st) (m .s .ns) (m .s .ps) z) e (simp (mo, rs));
+        let rs : rightSibling (m .s .st) (m .s .ns) (m .s .ps) l ≡ none = sym (f .run m sp) ∙ ap nearOf x in
+        subst (λ (z : ℕ). none ≡ rightSibling (m .s .st) (m .s .ns) (m .s .ps) z) e (simp (mo, rs));
   }
 
   -- the neighbour is a node of the pool
-  pub right-placed : (above : Near) → Finds ws t c l above → above .there ≡ true → Placed ws t (above .node)
-  right-placed above f x =
-      let own : rightSibling (y .mem .s .st) (y .mem .s .ns) (y .mem .s .ps) l ≡ some (above .key, above .node) = sym (f .run (y .mem) (y .spelt)) ∙ near-some above x in
-      let r = way-right y l e (above .key, above .node) own in
-      spelt-placed (y .spelt) (above .node) (r .0) (r .1)
+  pub right-placed : (near : Near) (k n : ℕ) → Finds ws t c l near → near ≡ Right k n → Placed ws t n
+  right-placed near k n f x =
+      let r = way-right y l e (k, n) (sym (f .run (y .mem) (y .spelt)) ∙ ap nearOf x) in
+      spelt-placed (y .spelt) n (r .0) (r .1)
 
   -- update_right_crit_key
   pub key-here : (w vs : List ℕ) (p k : ℕ) → w ≡ block ws t (getD (c .nodes) l 0) → p ≡ getD (c .places) l 0 → p + 16 < getD w 0 0 → vs ≡ withBlock ws t (getD (c .nodes) l 0) (set w (1 + p) k) →
@@ -104,9 +95,9 @@ module _ {ws : List ℕ} {t : ℕ} {c : Cursor} {level : ℕ} (y : Way ws t c le
         subst (λ (z : ℕ). Spelt vs t c (moved m (stored (m .s) (rightSet (m .s .st) (m .s .ns) (m .s .ps) z k)))) e (simp mo (f .run m sp));
   }
 
-pub right-root : {ws : List ℕ} {t : ℕ} {c : Cursor} (near : Near) (level : ℕ) → level ≤ 0 → near .there ≡ false → Finds ws t c level near
-right-root near zero h x = record { run = λ m sp. near-none near x }
-right-root near (suc l) h x = absurd (omega arith)
+pub right-root : {ws : List ℕ} {t : ℕ} {c : Cursor} (level : ℕ) → level ≤ 0 → Finds ws t c level Nothing
+right-root zero h = record { run = λ m sp. refl }
+right-root (suc l) h = absurd (omega arith)
 
 pub key-root : {ws : List ℕ} {t : ℕ} {c : Cursor} (k level : ℕ) → level ≤ 0 → Leaves (λ s. stored s (rightSet (s .st) (s .ns) (s .ps) level k)) ws ws t c c
 key-root k zero h = record { run = λ m sp. sp }

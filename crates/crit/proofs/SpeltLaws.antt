@@ -1,7 +1,7 @@
 -- PROOFS. Words that spell a state: reading, storing and freeing a node are steps of the state
 use mathlib.Core.Path.{_≡_, refl, sym, ap, _∙_}
 use mathlib.Core.List.{List}
-use Prim.Native.Nat.{ℕ, _+_, _-_, _≤_}
+use Prim.Native.Nat.{ℕ, _+_, _-_, _≤_, _<_}
 use lib.ListN.{length, getD}
 use Rattle.forest.specs.Lists.{count}
 use Rattle.forest.specs.declared.Cursor.{Cursor}
@@ -43,6 +43,10 @@ module _ {ws : List ℕ} {t : ℕ} {c : Cursor} {m : Mem} (sp : Spelt ws t c m) 
         (ap (λ (v : List ℕ). withBlock v t n w) (sp .words) ∙ ap (λ (x : ℕ). withBlock (spell (m .roots) (m .count) (m .s .st) (m .s .free)) x n w) (sp .trees) ∙
         spell-withBlock (m .roots) (m .count) (m .s .st) (m .s .free) (sp .sixteen) n lo hi w h)
         (put-sixteen (m .s .st) n w (sp .sixteen) h) refl refl refl
+
+  -- the node at a level of the path
+  pub spelt-level : (l : ℕ) → l < 16 → 1 ≤ getD (c .nodes) l 0 → getD (c .nodes) l 0 ≤ m .count → block ws t (getD (c .nodes) l 0) ≡ m .s .st (m .s .ns l)
+  spelt-level l d lo hi = spelt-block (getD (c .nodes) l 0) lo hi ∙ ap (m .s .st) (sp .nodes l d)
 
 pub same-count : {ws : List ℕ} {t : ℕ} {c d : Cursor} {m m′ : Mem} → Spelt ws t c m → Spelt ws t d m′ → m .count ≡ m′ .count
 same-count a b = sym (spelt-count a) ∙ spelt-count b

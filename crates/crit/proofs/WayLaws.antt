@@ -4,16 +4,16 @@ use mathlib.Core.List.{List, [], _∷_}
 use mathlib.Core.Option.{some}
 use Prim.Native.Nat.{ℕ, suc, _-_, _≤_, _<_}
 use native.Mathlib.Omega.{arith}
-use lib.ListN.{length, getD, length-map}
+use lib.ListN.{length, getD}
 use lib.Dec.{ltb, eqb}
 use borrow.Author.Tests.{ltb-true, ltb-false, eqb-true, eqb-false}
-use Rattle.forest.specs.Lists.{once, count, sum, parent}
+use Rattle.forest.specs.Lists.{count, sum, parent}
 use Rattle.forest.specs.Pairs.{Item}
-use Rattle.forest.specs.Rows.{Row, size, nums, sizes, itemsAt, front}
+use Rattle.forest.specs.Rows.{Row, nums, sizes, itemsAt, front}
 use Rattle.forest.specs.Trees.{numbers}
 use Rattle.forest.specs.Pools.{innerWords}
 use Rattle.forest.specs.declared.Cursor.{Cursor}
-use Rattle.forest.proofs.ListLaws.{is, isnt, test, total-append, parent-lt}
+use Rattle.forest.proofs.ListLaws.{is, isnt, test}
 use Rattle.pool.specs.Stores.{Store, block, Placed}
 use Rattle.crit.specs.States.{rightSibling}
 use Rattle.crit.specs.Paths.{numAt, Stacked, HoldsUp, Path}
@@ -23,6 +23,8 @@ use Rattle.crit.proofs.HealMem
 use Rattle.crit.proofs.HealRows
 use Rattle.crit.proofs.HealPath
 use Rattle.crit.proofs.SpeltLaws.{spelt-block, spelt-placed, same-count}
+use Rattle.forest.proofs.WordLaws.{count-append}
+use Rattle.forest.proofs.RowLaws.{parent-there}
 
 -- what the words of the node at a level above are
 pub record Inside (st : Store) (N n p : ℕ) : Type 0 where
@@ -36,10 +38,10 @@ pub record Inside (st : Store) (N n p : ℕ) : Type 0 where
 -- the neighbour of a row
 pub named-row : (N : ℕ) (R : Row) (Rs : List Row) → ((x : ℕ) → 1 ≤ count x (numbers (R ∷ Rs)) → (1 ≤ x) × (x ≤ N)) → (j : ℕ) → j < length R → (1 ≤ numAt R j) × (numAt R j ≤ N)
 named-row N R Rs nm j h =
-    nm (numAt R j) (omega (arith, total-append (λ z. once (eqb (numAt R j) z)) (nums R) (numbers Rs), HealMem.numAt-counts R j h))
+    nm (numAt R j) (omega (arith, count-append (numAt R j) (nums R) (numbers Rs), HealMem.numAt-counts R j h))
 
 pub named-rest : (N : ℕ) (R : Row) (Rs : List Row) → ((x : ℕ) → 1 ≤ count x (numbers (R ∷ Rs)) → (1 ≤ x) × (x ≤ N)) → (x : ℕ) → 1 ≤ count x (numbers Rs) → (1 ≤ x) × (x ≤ N)
-named-rest N R Rs nm x h = nm x (omega (arith, total-append (λ z. once (eqb x z)) (nums R) (numbers Rs)))
+named-rest N R Rs nm x h = nm x (omega (arith, count-append x (nums R) (numbers Rs)))
 
 pub path-inside : (N : ℕ) (st : Store) (R : Row) (j : ℕ) (Ss : List Row) (ns ps : ℕ → ℕ) → j < length R → Stacked R Ss → ((x : ℕ) → 1 ≤ count x (numbers Ss) → (1 ≤ x) × (x ≤ N)) → HoldsUp st Ss → Path R j Ss ns ps →
     (l : ℕ) → l < length Ss → Inside st N (ns l) (ps l)
@@ -71,7 +73,7 @@ pub right-inside : (N : ℕ) (st : Store) (R : Row) (j : ℕ) (Ss : List Row) (n
 right-inside N st R j Ss ns ps h s nm hu p x e = elim (test (ltb (suc j) (length R))) [
   | is f ↦
       let b = ltb-true (suc j) (length R) f in
-      let r = HealPath.right-is st ns ps (0, 0) R j Ss b s hu p ∙ ap some (HealRows.line-at (0, 0) R (suc j) b) in
+      let r = HealPath.right-is st ns ps R j Ss b s hu p ∙ ap some (HealRows.line-at (0, 0) R (suc j) b) in
       let q : _≡_ {A = Item} (front (itemsAt R (suc j)), numAt R (suc j)) x = cc (r, e) in
       let n : numAt R (suc j) ≡ x .1 = ap (λ (y : Item). y .1) q in
       let k = nm (suc j) b in
@@ -141,7 +143,7 @@ module _ {ws : List ℕ} {t : ℕ} {c : Cursor} {level : ℕ} (y : Way ws t c le
             at = parent (sizes S) (y .at);
             rows = Ss;
             levels = omega arith;
-            inside = rw (length-map S size) at (parent-lt (sizes S) (y .at) (omega (arith, y .inside)));
+            inside = parent-there S (y .at) (omega (arith, y .inside));
             stacked = s .2;
             named = named-rest (y .mem .count) S Ss nm;
             up = u .1;
@@ -159,7 +161,7 @@ module _ {ws : List ℕ} {t : ℕ} {c : Cursor} {level : ℕ} (y : Way ws t c le
           let b : sum (sizes S) ≡ length (y .row) = HealStack.stacked-sum (y .row) S (s .0) in
           let z : l ≡ length Ss = omega arith in
           right-inside (y .mem .count) (y .mem .s .st) S (parent (sizes S) (y .at)) Ss (y .mem .s .ns) (y .mem .s .ps)
-          (rw (length-map S size) at (parent-lt (sizes S) (y .at) (omega (arith, y .inside)))) (s .2) (named-row (y .mem .count) S Ss nm) (u .1) (p .2) x (rw (← z) r)
+          (parent-there S (y .at) (omega (arith, y .inside))) (s .2) (named-row (y .mem .count) S Ss nm) (u .1) (p .2) x (rw (← z) r)
 
   pub way-word : (l : ℕ) → l < level → (w : List ℕ) → w ≡ block ws t (getD (c .nodes) l 0) → getD w 0 0 ≤ 23
   way-word l h w e = rw e (way-few l h)

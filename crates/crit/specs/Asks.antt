@@ -12,10 +12,12 @@ use Rattle.forest.specs.Rows.{Row}
 use Rattle.forest.specs.Trees.{numbers}
 use Rattle.forest.specs.declared.Cursor.{Cursor}
 use Rattle.pool.specs.Stores.{Sixteen, spell}
-use Rattle.crit.specs.States.{State, rightSibling, critKey, settled}
+use Rattle.crit.specs.States.{State, rightSibling, critKey, throughRight}
 use Rattle.crit.specs.Paths.{Stacked, HoldsUp, Path}
 use Rattle.crit.specs.declared.Near.{Near}
+use Rattle.crit.specs.declared.Near.the-variants.{Right, Nothing}
 use Rattle.crit.specs.declared.Crit.{Crit}
+use Rattle.crit.specs.declared.Crit.the-variants as crit
 
 -- a pool's words over a state: roots, N, the tree of the cursor and its size while it is on a pair
 pub record Mem : Type 0 where
@@ -25,6 +27,7 @@ pub record Mem : Type 0 where
   pub depth : ℕ
   pub s : State
 
+-- with another state
 abbrev pub moved : Mem → State → Mem
 moved m s = record { roots = m .roots; count = m .count; tree = m .tree; depth = m .depth; s = s }
 
@@ -60,16 +63,19 @@ pub record Way (ws : List ℕ) (t : ℕ) (c : Cursor) (level : ℕ) : Type 0 whe
 pub record Leaves (f : State → State) (ws vs : List ℕ) (t : ℕ) (c d : Cursor) : Type 0 where
   pub run : (m : Mem) → Spelt ws t c m → Spelt vs t d (moved m (f (m .s)))
 
--- a neighbour, or a key, that may be missing
+-- a neighbour that may be missing
 abbrev pub nearOf : Near → Option Item
-nearOf r = cond (r .there) (some (r .key, r .node)) none
+nearOf (Right k n) = some (k, n)
+nearOf Nothing = none
 
 -- what right_sibling finds
 pub record Finds (ws : List ℕ) (t : ℕ) (c : Cursor) (level : ℕ) (r : Near) : Type 0 where
   pub run : (m : Mem) → Spelt ws t c m → nearOf r ≡ rightSibling (m .s .st) (m .s .ns) (m .s .ps) level
 
+-- a key that may be missing
 abbrev pub critOf : Crit → Option ℕ
-critOf r = cond (r .there) (some (r .key)) none
+critOf (crit.Key k) = some k
+critOf crit.Nothing = none
 
 -- what current_crit_key finds
 pub record Crits (ws : List ℕ) (t : ℕ) (c : Cursor) (level : ℕ) (r : Crit) : Type 0 where
@@ -81,5 +87,5 @@ pub record Goes (ws : List ℕ) (t : ℕ) (c : Cursor) (level : ℕ) : Type 0 wh
   pub more : suc (way .at) < length (way .row)
 
 -- the cursor goes through the right neighbour, or off the end
-pub record Settles (c r : Cursor) (level : ℕ) (near : Near) : Type 0 where
-  pub run : (ws : List ℕ) (t : ℕ) (m : Mem) → Spelt ws t c m → Spelt ws t r (moved m (settled (nearOf near) level (m .s)))
+pub record Passes (c r : Cursor) (level : ℕ) (near : Near) : Type 0 where
+  pub run : (ws : List ℕ) (t : ℕ) (m : Mem) → Spelt ws t c m → Spelt ws t r (moved m (throughRight (nearOf near) level (m .s)))

@@ -9,10 +9,11 @@ use Rattle.forest.specs.Pairs.{Item}
 use Rattle.forest.specs.Rows.{Row, sizes, joined, line, Fill}
 pub use Rattle.pool.specs.Stores.{numAt, upd, Holds, HoldsUp}
 
--- the same items, up to the key of the first
+-- the value or child of an item
 abbrev pub val : Item → ℕ
 val x = x .1
 
+-- the same items, up to the key of the first
 pub record Alike (xs ys : List Item) : Type 0 where
   pub vals : map val xs ≡ map val ys
   pub rest : drop 1 xs ≡ drop 1 ys

@@ -24,11 +24,12 @@ module _ (st : Store) (ns ps : ℕ → ℕ) where
   abbrev pub more : ℕ → Bool
   more l = ltb (ps l) (getD (st (ns l)) 0 0 - innerTag)
 
-  -- the right neighbour of the node at a level, and the key before it
+  -- a neighbour's first child, with the same key before it
   abbrev pub firstChild : Option Item → Option Item
   firstChild none = none
   firstChild (some x) = some (x .0, getD (st (x .1)) 8 0)
 
+  -- the right neighbour of the node at a level, and the key before it
   abbrev pub rightSibling : ℕ → Option Item
   rightSibling zero = none
   rightSibling (suc l) = cond (more l) (some (getD (st (ns l)) (suc (ps l)) 0, getD (st (ns l)) (8 + suc (ps l)) 0)) (firstChild (rightSibling l))
@@ -60,22 +61,26 @@ nextAt st ns ps (suc l) =
     (at ns (suc l) (getD (st (ns l)) (8 + suc (ps l)) 0), at ps l (suc (ps l)))
     (at ((nextAt st ns ps l) .0) (suc l) (getD (st ((nextAt st ns ps l) .0 l)) 8 0), at ((nextAt st ns ps l) .1) l 0)
 
--- the key before the node that goes, to its right neighbour
+-- a key, if there is one, becomes that before the right neighbour
 abbrev pub handWith : Option ℕ → Store → (ℕ → ℕ) → (ℕ → ℕ) → ℕ → Store
 handWith none st ns ps l = st
 handWith (some k) st ns ps l = rightSet st ns ps l k
 
+-- the key before the node that goes becomes that before its right neighbour
 abbrev pub handKey : Store → (ℕ → ℕ) → (ℕ → ℕ) → ℕ → Store
 handKey st ns ps l = handWith (critKey st ns ps l) st ns ps l
 
 -- Steps
 
+-- with another store
 abbrev pub stored : State → Store → State
 stored s st = record { st = st; free = s .free; ns = s .ns; ps = s .ps; live = s .live }
 
+-- on a pair, or not
 abbrev pub lives : State → Bool → State
 lives s b = record { st = s .st; free = s .free; ns = s .ns; ps = s .ps; live = b }
 
+-- with another node at a level of the path
 abbrev pub nodeAt : State → ℕ → ℕ → State
 nodeAt s l n = record { st = s .st; free = s .free; ns = at (s .ns) l n; ps = s .ps; live = s .live }
 
@@ -89,7 +94,7 @@ nextPath l s = record {
   live = s .live;
 }
 
--- next_node: to the right neighbour's first item; off the end if there is none
+-- to the first item of the right neighbour found; off the end if there is none
 abbrev pub nextWith : Option Item → ℕ → State → State
 nextWith none l s = lives s false
 nextWith (some x) l s = record {
@@ -100,10 +105,11 @@ nextWith (some x) l s = record {
   live = s .live;
 }
 
+-- next_node: to the right neighbour's first item
 abbrev pub nextNode : ℕ → State → State
 nextNode l s = nextWith (rightSibling (s .st) (s .ns) (s .ps) l) l s
 
 -- the path goes through the right neighbour of the node that went; off the end if there is none
-abbrev pub settled : Option Item → ℕ → State → State
-settled none l s = lives s false
-settled (some x) l s = nodeAt s l (x .1)
+abbrev pub throughRight : Option Item → ℕ → State → State
+throughRight none l s = lives s false
+throughRight (some x) l s = nodeAt s l (x .1)

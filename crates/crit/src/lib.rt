@@ -1,20 +1,19 @@
 // The keys above a node and its right sibling, as the crate's path.rs has them: what healing reads and changes along the path.
 ghost use Prim.Native.Nat.{_<_};
 ghost use Rattle.crit.specs.States.{stored, rightSet, leftSet, handKey, nextPath, nextNode};
-ghost use Rattle.crit.specs.Asks.{Way, Goes, Leaves, Finds, Crits, Settles};
+ghost use Rattle.crit.specs.Asks.{Way, Goes, Leaves, Finds, Crits, Passes};
 use forest::Cursor;
 
 // What may stand to the right of a node: the key before it, and its number.
-pub struct Near {
-    pub there: bool,
-    pub key: u32,
-    pub node: u32,
+pub enum Near {
+    Right(u32, u32),
+    Nothing,
 }
 
 // The key before a node, which the leftmost of a level has not.
-pub struct Crit {
-    pub there: bool,
-    pub key: u32,
+enum Crit {
+    Key(u32),
+    Nothing,
 }
 
 // The right sibling of the node at a level, even under another parent, and the key between them.
@@ -23,33 +22,20 @@ pub fn right_sibling(ws: &[u32], t: usize, c: Cursor, level: usize) -> Near
     ensures { λ r. ⌜ Finds (now (ws .entry)) t c level r ⌝ }
 {
     if level == 0 {
-        return Near {
-            there: false,
-            key: 0,
-            node: 0,
-        };
+        return Near::Nothing;
     }
     let l = level - 1;
     let n = c.nodes[l];
     let p = c.places[l] as usize;
     let w = pool::load(ws, t, n);
     if p + 16 < w[0] as usize {
-        return Near {
-            there: true,
-            key: w[1 + p],
-            node: w[9 + p],
-        };
+        return Near::Right(w[1 + p], w[9 + p]);
     }
-    let above = right_sibling(ws, t, c, l);
-    if above.there {
-        let v = pool::load(ws, t, above.node);
-        return Near {
-            there: true,
-            key: above.key,
-            node: v[8],
-        };
-    }
-    above
+    let Near::Right(key, above) = right_sibling(ws, t, c, l) else {
+        return Near::Nothing;
+    };
+    let v = pool::load(ws, t, above);
+    Near::Right(key, v[8])
 }
 
 // The key before the right sibling of the node at a level becomes `key`.
@@ -78,10 +64,7 @@ fn current_crit_key(ws: &[u32], t: usize, c: Cursor, level: usize) -> Crit
     ensures { λ r. ⌜ Crits (now (ws .entry)) t c level r ⌝ }
 {
     if level == 0 {
-        return Crit {
-            there: false,
-            key: 0,
-        };
+        return Crit::Nothing;
     }
     let l = level - 1;
     let p = c.places[l] as usize;
@@ -90,10 +73,7 @@ fn current_crit_key(ws: &[u32], t: usize, c: Cursor, level: usize) -> Crit
     }
     let n = c.nodes[l];
     let w = pool::load(ws, t, n);
-    Crit {
-        there: true,
-        key: w[p],
-    }
+    Crit::Key(w[p])
 }
 
 // The key before the node at a level becomes `key`.
@@ -121,9 +101,8 @@ pub fn hand_crit_key(ws: &mut [u32], t: usize, c: Cursor, level: usize)
     requires { ⌜ Way (now ws) t c level ⌝ }
     ensures { λ _. ⌜ Leaves (λ s. stored s (handKey (s .st) (s .ns) (s .ps) level)) (now (ws .entry)) (now (ws .exit)) t c c ⌝ }
 {
-    let crit = current_crit_key(ws, t, c, level);
-    if crit.there {
-        update_right_crit_key(ws, t, c, level, crit.key);
+    if let Crit::Key(key) = current_crit_key(ws, t, c, level) {
+        update_right_crit_key(ws, t, c, level, key);
     }
 }
 
@@ -158,8 +137,7 @@ pub fn next_node(ws: &[u32], t: usize, c: Cursor, level: usize) -> Cursor
     requires { ⌜ Way (now ws) t c level ⌝ }
     ensures { λ r. ⌜ Leaves (nextNode level) (now (ws .entry)) (now (ws .entry)) t c r ⌝ }
 {
-    let near = right_sibling(ws, t, c, level);
-    if near.there {
+    if let Near::Right(_, _) = right_sibling(ws, t, c, level) {
         let mut d = next_path(ws, t, c, level);
         d.places[level] = 0;
         return d;
@@ -170,15 +148,18 @@ pub fn next_node(ws: &[u32], t: usize, c: Cursor, level: usize) -> Cursor
 }
 
 // The path at a level goes through the right sibling of the node that went; off the end if there is none.
-pub fn settle(c: Cursor, level: usize, near: Near) -> Cursor
+pub fn through_right(c: Cursor, level: usize, near: Near) -> Cursor
     requires { ⌜ level < 16 ⌝ }
-    ensures { λ r. ⌜ Settles c r level near ⌝ }
+    ensures { λ r. ⌜ Passes c r level near ⌝ }
 {
     let mut d = c;
-    if near.there {
-        d.nodes[level] = near.node;
-    } else {
-        d.size = 0;
+    match near {
+        Near::Right(_, node) => {
+            d.nodes[level] = node;
+        }
+        Near::Nothing => {
+            d.size = 0;
+        }
     }
     d
 }

@@ -4,7 +4,8 @@ use mathlib.Core.List.{List, [], _∷_, _++_}
 use mathlib.Core.Bool.{Bool, true, false, _&&_}
 use Prim.Native.Nat.{ℕ, zero, suc, _+_, _-_, _*_, _≤_, _<_}
 use native.Mathlib.Omega.{arith}
-use lib.ListN.{length, replicate, length-append, length-map, length-replicate}
+use lib.ListN.{length, take, getD, set, replicate, length-append, length-map, length-replicate}
+use lib.Seq.{take-nil}
 use lib.Dec.{ltb, eqb, leb}
 use borrow.Author.Tests.{lt-ltb, le-ltb, eqb-true, eqb-false, eq-eqb, ne-eqb, le-leb, lt-leb}
 use Rattle.forest.specs.Lists.{once, count, pad}
@@ -12,6 +13,18 @@ use Rattle.forest.specs.Pairs.{Item}
 use Rattle.forest.specs.Rows.{Row, Tree}
 use Rattle.forest.specs.Pools.{Pool, used, AllGood, WellFormed, fresh, fresh-stack, leafWords, innerWords, inRow, inRows, inTree, inTrees, nodeWords, nodesFrom, encode}
 use Rattle.forest.proofs.ListLaws.{is, isnt, test, tests, total-append}
+
+-- a test as a number is at most 1
+pub small : (b : Bool) → once b ≤ 1
+small true = omega arith
+small false = omega arith
+
+-- a number that counts among those from 1 to N is one of them
+pub in-range : (n N : ℕ) → 1 ≤ once (leb 1 n && leb n N) → (1 ≤ n) × (n ≤ N)
+in-range n N h = elim (test (leb 1 n)) [
+  | is a ↦ elim (test (leb n N)) [ is b ↦ (omega tests, omega tests) | isnt b ↦ absurd (let z = simp (a, b) at h in omega arith) ]
+  | isnt a ↦ absurd (let z = simp a at h in omega arith)
+]
 
 -- a number from a on, c of them
 abbrev within : ℕ → ℕ → ℕ → Bool
@@ -90,6 +103,10 @@ over-ones : (a c : ℕ) → over a c (λ n. 1) ≡ c
 over-ones a zero = refl
 over-ones a (suc c) = omega (arith, over-ones (suc a) c)
 
+over-few : (a c : ℕ) (f : ℕ → ℕ) → ((n : ℕ) → f n ≤ 1) → over a c f ≤ c
+over-few a zero f h = omega arith
+over-few a (suc c) f h = omega (arith, h a, over-few (suc a) c f h)
+
 over-one : (a c x : ℕ) → over a c (λ n. once (eqb n x)) ≡ once (within a c x)
 over-one a zero x = elim (test (ltb x a)) [ is e ↦ rw (within-low a 0 x (omega tests)) | isnt e ↦ rw (within-high a 0 x (omega tests)) ]
 over-one a (suc c) x = let z : once (eqb a x) ≡ once (eqb x a) = swap in omega (arith, over-one (suc a) c x, once-within a c x)
@@ -110,10 +127,13 @@ all-inside N (x ∷ xs) h =
     let d : 1 ≤ once (within 1 N x) = let z = simp (eq-eqb x x refl) at (h x) in omega arith in
     let e : once (within 1 N x) ≤ 1 = small (within 1 N x) in
     omega arith
-  where
-    small : (b : Bool) → once b ≤ 1
-    small true = omega arith
-    small false = omega arith
+
+-- different numbers from 1 to N are N at most
+pub few-numbers : (N : ℕ) (xs : List ℕ) → ((n : ℕ) → count n xs ≤ once (leb 1 n && leb n N)) → length xs ≤ N
+few-numbers N xs h =
+    let a = all-inside N xs (λ n. rw inside-within (h n)) in
+    let b = over-few 1 N (λ n. count n xs) (λ n. omega (arith, h n, small (leb 1 n && leb n N))) in
+    omega arith
 
 -- nodes in use and free nodes are N
 pub nodes-all : (m : ℕ) (p : Pool) → WellFormed m p → length (used (p .trees)) + length (p .free) ≡ p .count
@@ -130,6 +150,27 @@ pub length-pad : (n : ℕ) (xs : List ℕ) → length (pad n xs) ≡ n
 length-pad zero xs = refl
 length-pad (suc n) [] = ap suc (length-pad n [])
 length-pad (suc n) (x ∷ xs) = ap suc (length-pad n xs)
+
+pub getD-pad : (n : ℕ) (xs : List ℕ) (i : ℕ) → i < n → getD (pad n xs) i 0 ≡ getD xs i 0
+getD-pad zero xs i h = absurd (omega arith)
+getD-pad (suc n) [] zero h = refl
+getD-pad (suc n) [] (suc i) h = getD-pad n [] i (omega arith)
+getD-pad (suc n) (x ∷ xs) zero h = refl
+getD-pad (suc n) (x ∷ xs) (suc i) h = getD-pad n xs i (omega arith)
+
+pub set-pad : (n : ℕ) (xs : List ℕ) (i k : ℕ) → i < length xs → set (pad n xs) i k ≡ pad n (set xs i k)
+set-pad zero xs i k h = refl
+set-pad (suc n) [] i k h = absurd (omega arith)
+set-pad (suc n) (x ∷ xs) zero k h = refl
+set-pad (suc n) (x ∷ xs) (suc i) k h = ap (x ∷_) (set-pad n xs i k (omega arith))
+
+-- the front of a list, one word more
+pub front-more : (n : ℕ) (xs : List ℕ) (i : ℕ) → i < n → set (pad n (take i xs)) i (getD xs i 0) ≡ pad n (take (suc i) xs)
+front-more zero xs i h = absurd (omega arith)
+front-more (suc n) [] zero h = refl
+front-more (suc n) [] (suc i) h = ap (0 ∷_) (rw (take-nil i) at (front-more n [] i (omega arith)))
+front-more (suc n) (x ∷ xs) zero h = refl
+front-more (suc n) (x ∷ xs) (suc i) h = ap (x ∷_) (front-more n xs i (omega arith))
 
 pub leaf-length : (xs : List Item) → length (leafWords xs) ≡ 16
 leaf-length xs = simp (length-append, length-pad)

@@ -6,22 +6,22 @@ use mathlib.Core.Logic.{_≢_}
 use mathlib.Core.Option.{Option, none, some}
 use Prim.Native.Nat.{ℕ, zero, suc, _+_, _-_, _≤_, _<_}
 use native.Mathlib.Omega.{arith}
-use lib.ListN.{length, take, getD, length-map}
+use lib.ListN.{length, take, getD}
 use lib.Dec.{ltb, eqb, leb}
 use borrow.Author.Tests.{lt-ltb, le-ltb, ltb-true, eqb-true, eqb-false, ne-eqb}
 use Rattle.forest.specs.Lists.{sum}
 use Rattle.forest.specs.Pairs.{Item}
-use Rattle.forest.specs.Rows.{Row, Tree, size, sizes, Good}
+use Rattle.forest.specs.Rows.{Row, Tree, sizes, Good}
 use Rattle.forest.specs.Trees.{leafOf, leafItems}
 use Rattle.forest.specs.declared.Cursor.{Cursor}
 use Rattle.forest.specs.Answers.{refusal}
 use Rattle.forest.specs.Pools.{Pool, WellFormed, remove, treeOf}
 use Rattle.forest.specs.Cursors.{Spot, off, on, leaves, sizeAt, Fits, pairAt, leafStart, seek, settle, next, prev, position, spotAt, Stands, spotOf, pathIn, stands, Move, to-first, to-key, to-next, to-prev, to-settled, to-remove, reads, removed, leftPool, removedSpot, leftSpot, blocked, moveFrom, move}
-use Rattle.forest.proofs.ListLaws.{is, isnt, test, tests, parent-lt, offset-lt}
+use Rattle.forest.proofs.ListLaws.{is, isnt, test, tests, offset-lt}
 use Rattle.forest.proofs.PairLaws.{place-le}
-use Rattle.forest.proofs.RowLaws.{length-items}
+use Rattle.forest.proofs.RowLaws.{length-items, parent-there}
 use Rattle.forest.proofs.TowerLaws.{tower-some}
-use Rattle.forest.proofs.TreeLaws.{NoneEmpty, lands}
+use Rattle.forest.proofs.TreeLaws.{NoneEmpty, none-at, lands}
 use Rattle.forest.proofs.PoolLaws.{good-at, call-formed}
 use Rattle.forest.proofs.CursorLaws.{next-at, settle-at, settle-pair}
 use Rattle.forest.proofs.StandLaws.{stands-fits}
@@ -52,11 +52,6 @@ take-suc (suc j) [] = refl
 take-suc zero (x ∷ xs) = omega arith
 take-suc (suc j) (x ∷ xs) = omega (arith, take-suc j xs)
 
-pub none-at : (L : Row) (j : ℕ) → NoneEmpty L → j < length L → 1 ≤ sizeAt L j
-none-at [] j s h = absurd (omega arith)
-none-at (n ∷ R) zero s h = s .0
-none-at (n ∷ R) (suc j) s h = none-at R j (s .1) (omega arith)
-
 pub prev-on : (L : Row) (j e : ℕ) → NoneEmpty L → j < length L → e ≤ sizeAt L j → 1 ≤ position L (on j e) →
     prev L (on j e) ≡ spotAt L (position L (on j e) - 1)
 prev-on L zero zero s h k p = absurd (omega arith)
@@ -72,7 +67,7 @@ prev-on L j (suc e) s h k p =
 pub fits-start : (L : Row) (j : ℕ) → Fits L (leafStart L j)
 fits-start L j = elim (test (ltb j (length L))) [ is e ↦ simp e (ltb-true _ _ e, omega arith) | isnt e ↦ simp e tt ]
 
-fits-seek : (m k : ℕ) (t : Tree) → 1 ≤ m → Good m 7 t → Fits (leaves t) (seek k (leaves t))
+pub fits-seek : (m k : ℕ) (t : Tree) → 1 ≤ m → Good m 7 t → Fits (leaves t) (seek k (leaves t))
 fits-seek m k [] lo g = tt
 fits-seek m k (L ∷ Rs) lo g =
     let s = lands m 7 k L Rs lo g in
@@ -94,7 +89,7 @@ fits-prev L (on j (suc e)) f = (f .0, omega arith)
 
 fits-at : (L : Row) (i : ℕ) → Fits L (spotAt L i)
 fits-at L i = elim (test (ltb i (sum (sizes L)))) [
-  | is e ↦ simp e (rw (length-map L size) at (parent-lt (sizes L) i (ltb-true _ _ e)), omega (arith, offset-lt (sizes L) i (ltb-true _ _ e)))
+  | is e ↦ simp e (parent-there L i (ltb-true _ _ e), omega (arith, offset-lt (sizes L) i (ltb-true _ _ e)))
   | isnt e ↦ simp e tt
 ]
 

@@ -5,7 +5,7 @@ use mathlib.Core.Bool.{true, true≢false}
 use mathlib.Core.Option.{Option, none, some}
 use Prim.Native.Nat.{ℕ, zero, suc, _+_, _-_, _≤_, _<_}
 use native.Mathlib.Omega.{arith}
-use lib.ListN.{length, take, drop, getD, getElem?, length-map}
+use lib.ListN.{length, take, drop, getD, getElem?}
 use lib.Seq.{take-all}
 use lib.Dec.{ltb, eqb, leb}
 use borrow.Author.Tests.{lt-ltb, le-ltb, ltb-true, ltb-false, eqb-true, eq-eqb, ne-eqb, le-leb, leb-true}
@@ -14,9 +14,9 @@ use Rattle.forest.specs.Pairs.{Item, Above, Rising, has, place, lookup}
 use Rattle.forest.specs.Rows.{Node, Row, Tree, size, sizes, nums, joined, itemsAt, Good}
 use Rattle.forest.specs.Trees.{leafOf, leafItems, pairs, removeTree}
 use Rattle.forest.specs.Cursors.{Spot, off, on, leaves, sizeAt, Fits, pairAt, leafStart, first, seek, settle, next, prev, position, spotAt, Path, pathUp, pathOf, indexUnder, spotOf, samePath, fits, runs}
-use Rattle.forest.proofs.ListLaws.{is, isnt, test, tests, parent-lt, parent-start}
+use Rattle.forest.proofs.ListLaws.{is, isnt, test, tests, parent-start}
 use Rattle.forest.proofs.PairLaws.{place-le, place-lt, place-delete}
-use Rattle.forest.proofs.RowLaws.{sum-sizes, length-items}
+use Rattle.forest.proofs.RowLaws.{sum-sizes, length-items, parent-there}
 use Rattle.forest.proofs.TowerLaws.{Levels, tower-some, tower-levels}
 use Rattle.forest.proofs.TreeLaws
 
@@ -292,7 +292,7 @@ index-ups : (n i : ℕ) (Rs : List Row) → i < n → Levels n Rs → indexUnder
 index-ups n i [] h w = omega arith
 index-ups n i (S ∷ Ss) h w =
     let b : i < sum (sizes S) = omega arith in
-    rw (index-ups (length S) (parent (sizes S) i) Ss (rw (length-map S size) at (parent-lt (sizes S) i b)) (w .3)) (parent-start (sizes S) i b)
+    rw (index-ups (length S) (parent (sizes S) i) Ss (parent-there S i b) (w .3)) (parent-start (sizes S) i b)
 
 pub spot-path : (m : ℕ) (t : Tree) (s : Spot) → Good m 7 t → Fits (leaves t) s → spotOf t (pathOf t s) ≡ s
 spot-path m [] off g f = refl

@@ -1,9 +1,9 @@
 -- PROOFS. Going down: in each inner node the child is the count of its stored keys that are not above k, and that leads to the leaf of k; and a tree has at most six levels
 use mathlib.Core.Path.{_≡_, refl, ap}
 use mathlib.Core.List.{List, [], _∷_, _++_, append-nil, map}
-use Prim.Native.Nat.{ℕ, suc, _+_, _-_, _≤_, _<_}
+use Prim.Native.Nat.{ℕ, zero, suc, _+_, _-_, _≤_, _<_}
 use native.Mathlib.Omega.{arith}
-use lib.ListN.{length, drop, length-append, length-map}
+use lib.ListN.{length, take, drop, getD, length-append, length-map}
 use lib.Dec.{leb}
 use borrow.Author.Tests.{lt-ltb, le-ltb, le-leb, lt-leb}
 use Rattle.forest.specs.Lists.{parent, offset, upto}
@@ -76,6 +76,15 @@ upto-inside k (x ∷ xs) h = omega (arith, upto-length k (keys xs), length-map x
 pub front-append : (xs ys : List Item) → 1 ≤ length xs → front (xs ++ ys) ≡ front xs
 front-append [] ys h = absurd (omega arith)
 front-append (x ∷ xs) ys h = refl
+
+pub front-take : (n : ℕ) (xs : List Item) → 1 ≤ n → front (take n xs) ≡ front xs
+front-take zero xs h = absurd (omega arith)
+front-take (suc n) [] h = refl
+front-take (suc n) (x ∷ xs) h = refl
+
+pub front-first : (xs : List Item) → 1 ≤ length xs → front xs ≡ (getD xs 0 (0, 0)) .0
+front-first [] h = absurd (omega arith)
+front-first (x ∷ xs) h = refl
 
 -- the index that the joined items name for k: which node, and where in it
 pub record Goes (k : ℕ) (S : Row) : Type 0 where

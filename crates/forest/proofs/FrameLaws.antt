@@ -17,7 +17,7 @@ use Rattle.forest.proofs.ListLaws.{is, isnt, test, tri, less, same, mor
 use Rattle.forest.proofs.PairLaws.{place-le}
 use Rattle.forest.proofs.RowLaws.{length-items, putRow-room, rekey-nums}
 use Rattle.forest.proofs.TowerLaws.{tower-some}
-use Rattle.forest.proofs.TreeLaws.{NoneEmpty, none-empty, lands}
+use Rattle.forest.proofs.TreeLaws.{NoneEmpty, none-empty, none-at, lands}
 use Rattle.forest.proofs.NodeForms.{put-room, put-line, refresh-same}
 
 -- one node of a row changes, and keeps its number
@@ -95,9 +95,7 @@ place-some k (x ∷ xs) h f e = elim (tri (x .0) k) [
 ]
 
 pub some-at : (R : Row) (j : ℕ) → NoneEmpty R → j < length R → 1 ≤ length (itemsAt R j)
-some-at [] j s h = absurd (omega arith)
-some-at (m ∷ R) zero s h = s .0
-some-at (m ∷ R) (suc j) s h = some-at R j (s .1) (omega arith)
+some-at R j s h = rw (length-items R j) (none-at R j s h)
 
 -- the first node of a row gets a new front
 line-front : (c p : ℕ) (x : Item) (new : ℕ) (m : Node) (R : Row) → full c 0 (m ∷ R) ≡ false → line (putRow c 0 p x new (m ∷ R)) ≡ (front (insertAt p x (m .items)), m .num) ∷ line R

@@ -17,16 +17,16 @@ use Rattle.forest.specs.declared.Answer.{Answer}
 use Rattle.forest.specs.declared.Cursor.{Cursor}
 use Rattle.forest.specs.Answers.{nothing, held, told}
 use Rattle.forest.specs.Pools.{Pool, WellFormed, treeOf}
-use Rattle.forest.specs.Cursors.{Spot, off, on, leaves, sizeAt, Fits, pairAt, seek, settle, next, prev, prevPair, position, spotAt, pathOf, cursorAt, Stands, spotOf, pathIn, stands, Move, to-first, to-key, to-next, to-prev, to-settled, to-remove, tells, reads, leftPool, leftSpot, Moved, blocked, moveFrom, move}
+use Rattle.forest.specs.Cursors.{Spot, off, on, leaves, sizeAt, Fits, pairAt, seek, settle, next, prev, prevPair, position, spotAt, pathOf, cursorAt, Stands, spotOf, pathIn, stands, Move, to-first, to-key, to-next, to-prev, to-settled, tells, reads, leftPool, leftSpot, Moved, blocked, moveFrom, move}
 use Rattle.forest.proofs.ListLaws.{is, isnt, test, tests, cons-eq, parent-start}
 use Rattle.forest.proofs.RowLaws.{length-items}
 use Rattle.forest.proofs.TowerLaws.{tower-some}
-use Rattle.forest.proofs.TreeLaws.{NoneEmpty, none-empty, lands, pairs-get}
+use Rattle.forest.proofs.TreeLaws.{NoneEmpty, none-empty, none-at, lands, pairs-get}
 use Rattle.forest.proofs.PoolLaws.{good-at}
 use Rattle.forest.proofs.CursorLaws.{pair-at, first-at, next-at, prev-at, settle-at, spot-path, leaves-joined, nth-lt}
 use Rattle.forest.proofs.StandLaws.{path-in, length-path, stands-fits, stands-yes}
 use Rattle.forest.proofs.Six.{six-levels}
-use Rattle.forest.proofs.CursorCalls.{next-on, next-past, prev-on, none-at, take-suc, move-done, move-reads, moved-stands, blocked-stands, left-formed, left-fits}
+use Rattle.forest.proofs.CursorCalls.{next-on, next-past, prev-on, take-suc, move-done, move-reads, moved-stands, blocked-stands, left-formed, left-fits}
 
 -- Spots: every move goes to the spot of a pair by its place in the list
 
@@ -296,14 +296,11 @@ module _ (m : ℕ) (lo : 1 ≤ m) (hi : m ≤ 4) (p : Pool) (h : WellFormed m p)
       let z = ap (next (row p c)) q ∙ next-place (row p c) i (some-leaves m lo hi p h c) in
       record { answers = g .answers ∙ ap told (ap (pairAt (row p c)) z ∙ pair-of m lo hi p h c (suc i)); spot = g .spot ∙ z }
 
-  still : (v : Move) (c : Cursor) → v ≢ to-remove → (move v c p) .pool ≡ p
-  still v c n = move-reads m lo hi v c p n
-
   nexts-at : (n i : ℕ) (c : Cursor) → blocked to-next c p ≡ 0 → spotIn p c ≡ spotAt (row p c) i → nexts n c p ≡ tellFrom n (suc i) (list p c)
   nexts-at zero i c e q = refl
   nexts-at (suc n) i c e q =
       let d = (move to-next c p) .cursor in
-      let same : (move to-next c p) .pool ≡ p = still to-next c (λ z. let y : _≡_ {A = ℕ} 0 1 = cc in omega arith) in
+      let same : (move to-next c p) .pool ≡ p = move-reads m lo hi to-next c p (λ z. let y : _≡_ {A = ℕ} 0 1 = cc in omega arith) in
       let a = again m lo hi to-next to-next c p h e same in
       let g = next-tells i c e q in
       let there : spotIn p d ≡ spotAt (row p c) (suc i) = ap (λ (w : Pool). spotIn w d) (sym same) ∙ g .spot in
@@ -314,7 +311,7 @@ module _ (m : ℕ) (lo : 1 ≤ m) (hi : m ≤ 4) (p : Pool) (h : WellFormed m p)
       (move to-first c p) .answer ∷ nexts (length (list p c)) ((move to-first c p) .cursor) p ≡ map (λ (y : Item). told (some y)) (list p c) ++ (nothing ∷ [])
   traversal c e =
       let d = (move to-first c p) .cursor in
-      let same : (move to-first c p) .pool ≡ p = still to-first c (λ z. let y : _≡_ {A = ℕ} 0 1 = cc in omega arith) in
+      let same : (move to-first c p) .pool ≡ p = move-reads m lo hi to-first c p (λ z. let y : _≡_ {A = ℕ} 0 1 = cc in omega arith) in
       let a = again m lo hi to-first to-next c p h e same in
       let g = first-goes m lo hi p h c e in
       let there : spotIn p d ≡ spotAt (row p c) 0 = ap (λ (w : Pool). spotIn w d) (sym same) ∙ g .spot in

@@ -103,12 +103,12 @@ rekey-set xs (n ∷ S) i x h e = elim (test (ltb i (size n))) [
 ]
 
 -- an item put into a node with room, not in front: the line stays, and so the rows above
-front-put : (p : ℕ) (x : Item) (xs : List Item) → 1 ≤ p → p ≤ length xs → front (insertAt p x xs) ≡ front xs
+pub front-put : (p : ℕ) (x : Item) (xs : List Item) → 1 ≤ p → 1 ≤ length xs → front (insertAt p x xs) ≡ front xs
 front-put zero x xs h k = absurd (omega arith)
 front-put (suc p) x [] h k = absurd (omega arith)
 front-put (suc p) x (y ∷ xs) h k = refl
 
 pub put-line : (c j p : ℕ) (x : Item) (new : ℕ) (R : Row) → full c j R ≡ false → 1 ≤ p → p ≤ getD (sizes R) j 0 → line (putRow c j p x new R) ≡ line R
 put-line c j p x new [] f h k = refl
-put-line c zero p x new (n ∷ R) f h k = rw (put-room c p x new n (leb-false _ _ f)) (ap (λ (a : ℕ). (a, n .num) ∷ line R) (front-put p x (n .items) h k))
+put-line c zero p x new (n ∷ R) f h k = rw (put-room c p x new n (leb-false _ _ f)) (ap (λ (a : ℕ). (a, n .num) ∷ line R) (front-put p x (n .items) h (omega arith)))
 put-line c (suc j) p x new (n ∷ R) f h k = ap ((front (n .items), n .num) ∷_) (put-line c j p x new R f h k)

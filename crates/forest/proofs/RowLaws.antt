@@ -4,10 +4,10 @@ use mathlib.Core.List.{List, [], _∷_, _++_, append-assoc, append-nil}
 use mathlib.Core.Bool.{true, false}
 use Prim.Native.Nat.{ℕ, zero, suc, _+_, _-_, _*_, _≤_, _<_, _/_}
 use native.Mathlib.Omega.{arith}
-use lib.ListN.{length, take, drop, getD, set, length-append, length-take, length-drop, take-append-drop, length-set}
+use lib.ListN.{length, take, drop, getD, set, length-append, length-map, length-take, length-drop, take-append-drop, length-set}
 use lib.Dec.{ltb, eqb, leb}
 use borrow.Author.Tests.{lt-ltb, le-ltb, eqb-true, leb-true, leb-false}
-use Rattle.forest.specs.Lists.{insertAt, removeAt, sum}
+use Rattle.forest.specs.Lists.{insertAt, removeAt, sum, parent, offset}
 use Rattle.forest.specs.Pairs.{Item}
 use Rattle.forest.specs.Rows.{Node, Row, size, front, nums, sizes, joined, line, itemsAt, least, Fill, keeps, putNode, alone, healthy, heal, without, putRow, setRow, dropRow, full, rekey}
 use Rattle.forest.proofs.ListLaws
@@ -28,6 +28,13 @@ pub length-items : (R : Row) (j : ℕ) → length (itemsAt R j) ≡ getD (sizes 
 length-items [] j = refl
 length-items (n ∷ R) zero = refl
 length-items (n ∷ R) (suc j) = length-items R j
+
+-- item i of a row: its node, and its place in that node
+pub parent-there : (S : Row) (i : ℕ) → i < sum (sizes S) → parent (sizes S) i < length S
+parent-there S i h = rw (length-map S size) at (ListLaws.parent-lt (sizes S) i h)
+
+pub offset-there : (S : Row) (i : ℕ) → i < sum (sizes S) → offset (sizes S) i < length (itemsAt S (parent (sizes S) i))
+offset-there S i h = rw (length-items S (parent (sizes S) i)) (ListLaws.offset-lt (sizes S) i h)
 
 pub fill-at : (lo hi : ℕ) (xs : List ℕ) (i : ℕ) → Fill lo hi xs → getD xs i 0 ≤ hi
 fill-at lo hi [] i s = omega arith

@@ -5,24 +5,24 @@ use mathlib.Core.Bool.{true, _&&_}
 use mathlib.Core.Logic.{_≢_}
 use Prim.Native.Nat.{ℕ, zero, suc, _+_, _-_, _≤_, _<_}
 use native.Mathlib.Omega.{arith}
-use lib.ListN.{length, take, drop, getD, length-map, length-append, length-drop}
+use lib.ListN.{length, take, drop, getD, length-map, length-append, length-drop, List·getD-map}
 use lib.Seq.{drop-append-seam}
 use lib.Dec.{leb}
-use borrow.Author.Tests.{eq-eqb, le-leb, lt-leb, leb-true}
+use borrow.Author.Tests.{eq-eqb, le-leb, lt-leb}
 use Rattle.forest.specs.Lists.{sum, count}
 use Rattle.forest.specs.Pairs.{Item, Above, Rising, has}
 use Rattle.forest.specs.Rows.{Row, Tree, size, sizes, nums, front, fronts, joined, line, Fill, Tower, Good}
 use Rattle.forest.specs.Trees.{pairs, numbers}
 use Rattle.forest.specs.Pools.{Pool, WellFormed, used, treeOf}
 use Rattle.forest.specs.Cursors.{on, pathOf}
-use Rattle.forest.proofs.ListLaws.{is, isnt, test, cons-eq, map-append, map-drop}
+use Rattle.forest.proofs.ListLaws.{cons-eq, map-append, map-drop}
 use Rattle.forest.proofs.PairLaws.{rising-left, rising-right}
 use Rattle.forest.proofs.RowLaws.{sum-sizes, length-line}
 use Rattle.forest.proofs.TreeLaws.{NoneEmpty, none-empty}
 use Rattle.forest.proofs.RootRule.{Root, tower-layers}
 use Rattle.forest.proofs.PoolLaws.{good-at}
-use Rattle.forest.proofs.CountLaws.{nodes-all}
-use Rattle.forest.proofs.WordLaws.{rowAt, small}
+use Rattle.forest.proofs.CountLaws.{small, in-range, nodes-all}
+use Rattle.forest.proofs.WordLaws.{rowAt}
 use Rattle.forest.proofs.CallLaws.{two-trees}
 use Rattle.forest.proofs.StandLaws.{length-pathUp}
 
@@ -99,11 +99,6 @@ rising-at [] i r = tt
 rising-at (x ∷ xs) zero r = rising-left x (flat xs) r
 rising-at (x ∷ xs) (suc i) r = rising-at xs i (rising-right x (flat xs) r)
 
-map-at : (xs : List (List Item)) (i : ℕ) → getD (map front xs) i 0 ≡ front (getD xs i [])
-map-at [] i = refl
-map-at (x ∷ xs) zero = refl
-map-at (x ∷ xs) (suc i) = map-at xs i
-
 line-key : (R : Row) (i : ℕ) → (getD (line R) i (0, 0)) .0 ≡ getD (fronts R) i 0
 line-key [] i = refl
 line-key (n ∷ R) zero = refl
@@ -123,7 +118,7 @@ guides R S xs e h = record {
   child = λ i k. rw e (line-num R i);
   smallest = λ i k.
       let z : (getD (joined S) i (0, 0)) .0 ≡ front (getD xs i []) =
-      ap (λ (us : List Item). (getD us i (0, 0)) .0) e ∙ line-key R i ∙ ap (λ (us : List ℕ). getD us i 0) (sym (h .same)) ∙ map-at xs i in
+      ap (λ (us : List Item). (getD us i (0, 0)) .0) e ∙ line-key R i ∙ ap (λ (us : List ℕ). getD us i 0) (sym (h .same)) ∙ List·getD-map front xs i [] in
       rw z (front-smallest (getD xs i []) (some-at xs i (omega (arith, heads-length R xs h)) (h .some)) (rising-at xs i (h .rises)));
 }
 
@@ -207,13 +202,7 @@ stack-fits m p h = omega (arith, nodes-all m p h)
 
 -- "roots, children and stack numbers naming nodes": what stands in a tree or in the stack is a number from 1 to N
 pub names-node : (m : ℕ) (p : Pool) (n : ℕ) → WellFormed m p → 1 ≤ count n (used (p .trees)) + count n (p .free) → (1 ≤ n) × (n ≤ p .count)
-names-node m p n h k = elim (test (leb 1 n)) [
-  | is a ↦ elim (test (leb n (p .count))) [
-    | is b ↦ (leb-true _ _ a, leb-true _ _ b)
-    | isnt b ↦ absurd (let z = simp (a, b) at (h .each-once n) in omega arith)
-  ]
-  | isnt a ↦ absurd (let z = simp a at (h .each-once n) in omega arith)
-]
+names-node m p n h k = in-range n (p .count) (omega (arith, h .each-once n))
 
 -- no other number is a node
 pub no-other : (m : ℕ) (p : Pool) (n : ℕ) → WellFormed m p → p .count < n → count n (used (p .trees)) + count n (p .free) ≡ 0

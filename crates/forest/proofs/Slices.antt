@@ -1,17 +1,18 @@
 -- PROOFS. What the loops of slice_insert and slice_shift make, turn by turn; what a search passes
 use mathlib.Core.Path.{_≡_, refl, sym, ap, _∙_}
 use mathlib.Core.List.{List, [], _∷_, _++_, append-nil}
-use mathlib.Core.Bool.{Bool, true, false, cond}
+use mathlib.Core.Bool.{Bool, true, false}
 use Prim.Native.Nat.{ℕ, zero, suc, _+_, _-_, _≤_, _<_}
 use native.Mathlib.Numerals.{add-one}
 use native.Mathlib.Omega.{arith}
 use lib.ListN.{length, take, drop, set, getD, length-drop, List·getD-append}
-use lib.Seq.{take-suc, drop-cons, set-at, length-take-le, getD-take, getD-drop, append-snoc, take-all, getD-append-add}
-use lib.Dec.{eqb}
+use lib.Seq.{take-suc, drop-cons, drop-length, set-at, length-take-le, getD-take, getD-drop, append-snoc, take-all, getD-append-add}
+use lib.Dec.{ltb, eqb}
 use borrow.Author.Tests.{lt-ltb, le-ltb, eq-eqb, ne-eqb}
 use Rattle.forest.specs.Lists.{insertAt}
 use Rattle.forest.specs.Slices.{inserted, shifted, KeysAbove, KeysRise, keyPlace, hasKey, searched}
 use Rattle.forest.specs.declared.Found.the-variants.{Here, Absent}
+use Rattle.forest.proofs.ListLaws.{is, isnt, test, tests}
 
 -- l with the places above j filled by what stood one before
 abbrev pub moved : List ℕ → ℕ → List ℕ
@@ -81,61 +82,88 @@ none-above : (k f : ℕ) (fs : List ℕ) → k ≤ f → KeysAbove f fs → hasK
 none-above k f [] h a = refl
 none-above k f (g ∷ fs) h a = simp (ne-eqb k g (omega arith)) (none-above k f fs h (a .1))
 
--- the first i keys are below k
-abbrev pub Passed : ℕ → List ℕ → ℕ → Type 0
-Passed k fs zero = Unit {0}
-Passed k [] (suc i) = ⊥
-Passed k (f ∷ fs) (suc i) = (f < k) × Passed k fs i
+-- the place of k among the keys fs, and whether it is there, the keys before place i not asked
+pub record Asked (k : ℕ) (fs : List ℕ) (i place : ℕ) (here : Bool) : Type 0 where
+  pub at : place ≡ i + keyPlace k (drop i fs)
+  pub hit : here ≡ hasKey k (drop i fs)
 
-pub passed-none : (k : ℕ) (fs : List ℕ) → Passed k fs 0
-passed-none k [] = tt
-passed-none k (f ∷ fs) = tt
+rise-drop : (fs : List ℕ) (i : ℕ) → KeysRise fs → KeysRise (drop i fs)
+rise-drop fs zero r = r
+rise-drop [] (suc i) r = tt
+rise-drop (f ∷ fs) (suc i) r = rise-drop fs i (r .1)
 
-pub passed-more : (k : ℕ) (fs : List ℕ) (i : ℕ) → i < length fs → Passed k fs i → getD fs i 0 < k → Passed k fs (i + 1)
-passed-more k fs i h p l = rw add-one (more fs i h p l)
-  where
-    more : (fs : List ℕ) (i : ℕ) → i < length fs → Passed k fs i → getD fs i 0 < k → Passed k fs (suc i)
-    more [] i h p l = absurd (omega arith)
-    more (f ∷ fs) zero h p l = (l, passed-none k fs)
-    more (f ∷ fs) (suc i) h p l = (p .0, more fs i (omega arith) (p .1) l)
+-- at the head of the loop: of the first n of l those from place i on have been asked
+pub record Searching (k : ℕ) (l : List ℕ) (n i place : ℕ) (here : Bool) : Type 0 where
+  pub few : i ≤ length l
+  pub past : n ≤ i → (place ≡ n) × (here ≡ false)
+  pub asked : i ≤ n → Asked k (take n l) i place here
 
-pub search-end : (k : ℕ) (fs : List ℕ) (i : ℕ) → length fs ≤ i → i ≤ length fs → Passed k fs i → Absent i ≡ searched k fs
-unfolding searched
-search-end k fs i h l p = rw (has fs i h p, at fs i h l p)
-  where
-    has : (fs : List ℕ) (i : ℕ) → length fs ≤ i → Passed k fs i → hasKey k fs ≡ false
-    has [] i h p = refl
-    has (f ∷ fs) zero h p = absurd (omega arith)
-    has (f ∷ fs) (suc i) h p = simp (ne-eqb k f (omega arith)) (has fs i (omega arith) (p .1))
+module _ (k : ℕ) (l : List ℕ) (n : ℕ) (h : n ≤ length l) where
+  key-there : (i : ℕ) → i < n → drop i (take n l) ≡ getD l i 0 ∷ drop (suc i) (take n l)
+  key-there i b =
+      let z : length (take n l) ≡ n = length-take-le n l h in
+      drop-cons (take n l) i 0 (omega arith) ∙ ap (λ (x : ℕ). x ∷ drop (suc i) (take n l)) (getD-take n l i 0 b)
 
-    at : (fs : List ℕ) (i : ℕ) → length fs ≤ i → i ≤ length fs → Passed k fs i → keyPlace k fs ≡ i
-    at [] i h l p = omega arith
-    at (f ∷ fs) zero h l p = absurd (omega arith)
-    at (f ∷ fs) (suc i) h l p = simp (lt-ltb f k (p .0)) (ap suc (at fs i (omega arith) (omega arith) (p .1)))
+  asked-none : (i place : ℕ) (here : Bool) → i ≡ n → place ≡ n → here ≡ false → Asked k (take n l) i place here
+  asked-none i place here e p f =
+      let d : drop i (take n l) ≡ [] = ap (λ (i : ℕ). drop i (take n l)) (e ∙ sym (length-take-le n l h)) ∙ drop-length (take n l) in
+      record { at = rw d (omega arith); hit = rw d f }
 
-stops : (k : ℕ) (fs : List ℕ) (i : ℕ) → i < length fs → Passed k fs i → k ≤ getD fs i 0 → keyPlace k fs ≡ i
-stops k [] i h p l = absurd (omega arith)
-stops k (f ∷ fs) zero h p l = simp (le-ltb f k l)
-stops k (f ∷ fs) (suc i) h p l = simp (lt-ltb f k (p .0)) (ap suc (stops k fs i (omega arith) (p .1) l))
+  pub search-begins : Searching k l n (length l) n false
+  search-begins = record { few = omega arith; past = λ b. (refl, refl); asked = λ b. asked-none (length l) n false (omega arith) refl refl }
 
-pub search-here : (k : ℕ) (fs : List ℕ) (i : ℕ) → i < length fs → Passed k fs i → getD fs i 0 ≡ k → Here i ≡ searched k fs
-unfolding searched
-search-here k fs i h p e = rw (has fs i h e, stops k fs i h p (omega arith))
-  where
-    has : (fs : List ℕ) (i : ℕ) → i < length fs → getD fs i 0 ≡ k → hasKey k fs ≡ true
-    has [] i h e = absurd (omega arith)
-    has (f ∷ fs) zero h e = simp (eq-eqb k f (sym e))
-    has (f ∷ fs) (suc i) h e = rw (has fs i (omega arith) e) (either (eqb k f))
-      where
-        either : (b : Bool) → cond b true true ≡ true
-        either true = refl
-        either false = refl
+  -- each turn of the loop, which steps from i to i - 1
+  module _ (i place : ℕ) (here : Bool) (s : Searching k l n i place here) (z : 0 < i) where
+    -- the place is not one of the first n
+    pub search-skips : n ≤ i - 1 → Searching k l n (i - 1) place here
+    search-skips b =
+        let q = s .past (omega arith) in
+        record { few = omega (arith, s .few); past = λ c. q; asked = λ c. asked-none (i - 1) place here (omega arith) (q .0) (q .1) }
 
-pub search-absent : (k : ℕ) (fs : List ℕ) (i : ℕ) → KeysRise fs → i < length fs → Passed k fs i → k < getD fs i 0 → Absent i ≡ searched k fs
-unfolding searched
-search-absent k fs i r h p l = rw (has fs i r h p l, stops k fs i h p (omega arith))
-  where
-    has : (fs : List ℕ) (i : ℕ) → KeysRise fs → i < length fs → Passed k fs i → k < getD fs i 0 → hasKey k fs ≡ false
-    has [] i r h p l = absurd (omega arith)
-    has (f ∷ fs) zero r h p l = simp (ne-eqb k f (omega arith)) (none-above k f fs (omega arith) (r .0))
-    has (f ∷ fs) (suc i) r h p l = simp (ne-eqb k f (omega arith)) (has fs i (r .1) (omega arith) (p .1) l)
+    -- a key that is not below k
+    pub search-stops : i - 1 < n → KeysRise (take n l) → k ≤ getD l (i - 1) 0 → Searching k l n (i - 1) (i - 1) (eqb (getD l (i - 1) 0) k)
+    search-stops b r g =
+        let u : KeysRise (getD l (i - 1) 0 ∷ drop (suc (i - 1)) (take n l)) = rw (key-there (i - 1) b) at (rise-drop (take n l) (i - 1) r) in
+        let x : eqb (getD l (i - 1) 0) k ≡ hasKey k (drop (i - 1) (take n l)) =
+        elim (test (eqb (getD l (i - 1) 0) k)) [
+          | is e ↦ simp (key-there (i - 1) b, e, eq-eqb k (getD l (i - 1) 0) (omega tests))
+          | isnt e ↦ simp (key-there (i - 1) b, e, ne-eqb k (getD l (i - 1) 0) (omega tests), none-above k (getD l (i - 1) 0) (drop (suc (i - 1)) (take n l)) g (u .0))
+        ] in
+        record {
+          few = omega (arith, s .few);
+          past = λ c. absurd (omega arith);
+          asked = λ c. record { at = simp (key-there (i - 1) b, le-ltb (getD l (i - 1) 0) k g) (omega arith); hit = x };
+        }
+
+    -- a key below k
+    pub search-passes : getD l (i - 1) 0 < k → Searching k l n (i - 1) place here
+    search-passes g = elim (test (ltb (i - 1) n)) [
+      | is e ↦
+          let b : i - 1 < n = omega tests in
+          let y : suc (i - 1) ≡ i = omega arith in
+          let a : Asked k (take n l) (suc (i - 1)) place here = rw y (s .asked (omega arith)) in
+          record {
+            few = omega (arith, s .few);
+            past = λ c. absurd (omega arith);
+            asked = λ c. record {
+              at = simp (key-there (i - 1) b, lt-ltb (getD l (i - 1) 0) k g) (omega (arith, a .at));
+              hit = simp (key-there (i - 1) b, ne-eqb k (getD l (i - 1) 0) (omega arith)) (a .hit);
+            };
+          }
+      | isnt e ↦ search-skips (omega tests)
+    ]
+
+  -- at its end
+  module _ (i place : ℕ) (here : Bool) (s : Searching k l n i place here) (z : i ≡ 0) where
+    told : (place ≡ keyPlace k (take n l)) × (here ≡ hasKey k (take n l))
+    told =
+        let a : Asked k (take n l) 0 place here = rw z at (s .asked (omega arith)) in
+        (omega (arith, a .at), a .hit)
+
+    pub search-here : here ≡ true → Here place ≡ searched k (take n l)
+    unfolding searched
+    search-here e = let t : hasKey k (take n l) ≡ true = sym (told .1) ∙ e in rw (t, told .0)
+
+    pub search-absent : here ≡ false → Absent place ≡ searched k (take n l)
+    unfolding searched
+    search-absent e = let t : hasKey k (take n l) ≡ false = sym (told .1) ∙ e in rw (t, told .0)

@@ -1,7 +1,7 @@
 -- PROOFS. The rows above the leaves: they stay stacked and filled, and no number is lost or doubled
 use mathlib.Core.Path.{_≡_, refl, sym, ap, _∙_}
 use mathlib.Core.List.{List, [], _∷_}
-use mathlib.Core.Bool.{true, false}
+use mathlib.Core.Bool.{Bool, true, false, cond}
 use Prim.Native.Nat.{ℕ, suc, _+_, _-_, _≤_, _<_}
 use native.Mathlib.Omega.{arith}
 use lib.ListN.{length, take, drop, getD, length-drop, length-map}
@@ -9,10 +9,10 @@ use lib.Dec.{ltb}
 use borrow.Author.Tests.{le-ltb, ltb-true, ltb-false}
 use Rattle.forest.specs.Lists.{removeAt, sum, total, parent, offset}
 use Rattle.forest.specs.Pairs.{Item}
-use Rattle.forest.specs.Rows.{Row, size, nums, sizes, joined, line, Fill, Tower, putRow, full, rekey, refresh}
+use Rattle.forest.specs.Rows.{Row, nums, sizes, joined, line, Fill, Tower, putRow, full, rekey, refresh}
 use Rattle.forest.specs.Trees.{numbers, seat, growUp, needUp, dropAt, lost, dropUp, freedUp, trim, fromTop, trimmed}
-use Rattle.forest.proofs.ListLaws.{is, isnt, test, tests, length-insertAt, length-removeAt, parent-lt, offset-lt, parent-start, total-append, total-insertAt, total-removeAt, total-head, drop-one}
-use Rattle.forest.proofs.RowLaws.{sum-sizes, length-line, putRow-joined, putRow-room, putRow-full, putRow-fill, dropRow-joined, dropRow-kept, dropRow-lost, dropRow-length, dropRow-fill, rekey-nums, rekey-sizes, rekey-joined, rekey-length}
+use Rattle.forest.proofs.ListLaws.{is, isnt, test, tests, length-insertAt, length-removeAt, offset-lt, parent-start, total-append, total-insertAt, total-removeAt, total-head, drop-one}
+use Rattle.forest.proofs.RowLaws.{sum-sizes, length-line, putRow-joined, putRow-room, putRow-full, putRow-fill, dropRow-joined, dropRow-kept, dropRow-lost, dropRow-length, dropRow-fill, rekey-nums, rekey-sizes, rekey-joined, rekey-length, parent-there}
 
 -- the counts of the rows above n nodes
 abbrev pub Levels : ℕ → List Row → Type 0
@@ -62,7 +62,7 @@ module _ (i new : ℕ) (S : Row) (h : i < sum (sizes S)) where
   grown = putRow 8 (parent (sizes S) i) (suc (offset (sizes S) i)) seat new S
 
   up-lt : parent (sizes S) i < length S
-  up-lt = rw (length-map S size) at (parent-lt (sizes S) i h)
+  up-lt = parent-there S i h
 
   up-sum : sum (sizes grown) ≡ suc (sum (sizes S))
   up-sum =
@@ -102,7 +102,7 @@ levels-stack n (S ∷ Ss) w = (omega arith, w .1, w .2, levels-stack (length S) 
 
 module _ (i : ℕ) (S : Row) (h : i < sum (sizes S)) where
   down-lt : parent (sizes S) i < length S
-  down-lt = rw (length-map S size) at (parent-lt (sizes S) i h)
+  down-lt = parent-there S i h
 
   down-joined : joined (dropAt i S) ≡ removeAt i (joined S)
   down-joined =
@@ -126,9 +126,17 @@ module _ (i : ℕ) (S : Row) (h : i < sum (sizes S)) where
   down-lost : lost (dropAt i S) S ≡ true → nums (dropAt i S) ≡ removeAt (parent (sizes S) i) (nums S)
   down-lost e = dropRow-lost 8 (parent (sizes S) i) (offset (sizes S) i) S (ltb-true _ _ e)
 
-some-length : (S : Row) → 1 ≤ sum (sizes S) → 1 ≤ length S
+pub some-length : (S : Row) → 1 ≤ sum (sizes S) → 1 ≤ length S
 some-length [] h = h
 some-length (n ∷ S) h = omega arith
+
+pub dropUp-length : (i : ℕ) (Rs : List Row) → length (dropUp i Rs) ≡ length Rs
+dropUp-length i [] = refl
+dropUp-length i (S ∷ Ss) = elim (test (lost (dropAt i S) S)) [ is e ↦ simp e (ap suc (dropUp-length (parent (sizes S) i) Ss)) | isnt e ↦ simp e ]
+
+pub went-length : (b : Bool) (i : ℕ) (Rs : List Row) → length (cond b (dropUp i Rs) Rs) ≡ length Rs
+went-length true i Rs = dropUp-length i Rs
+went-length false i Rs = refl
 
 pub drop-levels : (n : ℕ) (Rs : List Row) (i : ℕ) → 1 ≤ n → i < suc n → Levels (suc n) Rs → Stack n (dropUp i Rs)
 drop-levels n [] i g h w = absurd (omega arith)

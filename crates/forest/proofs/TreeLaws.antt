@@ -27,6 +27,11 @@ none-empty m c [] h f = tt
 none-empty m c (n ∷ []) h f = (f .0, tt)
 none-empty m c (n ∷ l ∷ R) h f = (omega arith, none-empty m c (l ∷ R) h (f .2))
 
+pub none-at : (R : Row) (j : ℕ) → NoneEmpty R → j < length R → 1 ≤ getD (sizes R) j 0
+none-at [] j s h = absurd (omega arith)
+none-at (n ∷ R) zero s h = s .0
+none-at (n ∷ R) (suc j) s h = none-at R j (s .1) (omega arith)
+
 below-front : (k : ℕ) (xs ys zs : List Item) → 1 ≤ length ys → Rising (xs ++ (ys ++ zs)) → front ys ≤ k → Below xs k
 below-front k xs [] zs h r e = absurd (omega arith)
 below-front k xs (y ∷ ys) zs h r e = below-le xs (y .0) k e (rising-seam xs y (ys ++ zs) r)

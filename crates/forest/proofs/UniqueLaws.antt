@@ -1,16 +1,16 @@
 -- PROOFS. Words determine the pool: two well formed pools with the same words are the same
 use mathlib.Core.Path.{_≡_, refl, sym, ap, _∙_}
-use mathlib.Core.List.{List, [], _∷_, _++_, map, reverse, reverseAux, reverse-reverse}
+use mathlib.Core.List.{List, [], _∷_, map, reverse, reverseAux, reverse-reverse}
 use Prim.Native.Nat.{ℕ, zero, suc, _+_, _-_, _*_, _≤_, _<_}
 use native.Mathlib.Omega.{arith}
 use lib.ListN.{length, take, drop, getD, length-map, length-reverse}
-use lib.Seq.{take-at, drop-at, ext-getD}
+use lib.Seq.{ext-getD}
 use Rattle.forest.specs.Lists.{count, pad}
 use Rattle.forest.specs.Pairs.{Item}
 use Rattle.forest.specs.Rows.{Row, Tree, node, size, nums, sizes, joined, line, itemsAt, Fill, Tower, Good}
 use Rattle.forest.specs.Trees.{numbers}
 use Rattle.forest.specs.Pools.{Pool, used, WellFormed, treeOf, leafWords, innerWords, nodeWords, rootAbove, root, encode, Sound}
-use Rattle.forest.proofs.ListLaws.{cons-eq, map-append}
+use Rattle.forest.proofs.ListLaws.{cons-eq, map-append, append-parts}
 use Rattle.forest.proofs.TowerLaws.{tower-some}
 use Rattle.forest.proofs.PoolLaws.{good-at}
 use Rattle.forest.proofs.CountLaws.{nodes-all, length-pad}
@@ -24,12 +24,6 @@ module _ {A : Type 0} where
 
   front-eq : (d x y : A) (xs ys : List A) → x ∷ xs ≡ y ∷ ys → x ≡ y
   front-eq d x y xs ys e = ap (λ (l : List A). getD l 0 d) e
-
-  left-eq : (n : ℕ) (a b c d : List A) → length a ≡ n → length c ≡ n → a ++ b ≡ c ++ d → a ≡ c
-  left-eq n a b c d h k e = sym (take-at a b n h) ∙ ap (take n) e ∙ take-at c d n k
-
-  right-eq : (n : ℕ) (a b c d : List A) → length a ≡ n → length c ≡ n → a ++ b ≡ c ++ d → b ≡ d
-  right-eq n a b c d h k e = sym (drop-at a b n h) ∙ ap (drop n) e ∙ drop-at c d n k
 
 pad-eq : (n : ℕ) (xs ys : List ℕ) → length xs ≡ length ys → length xs ≤ n → pad n xs ≡ pad n ys → xs ≡ ys
 pad-eq n [] [] h k e = refl
@@ -61,22 +55,21 @@ leaf-eq : (xs ys : List Item) → length xs ≤ 7 → leafWords xs ≡ leafWords
 leaf-eq xs ys h e =
     let n : length xs ≡ length ys = omega (arith, word-0 (32 + length xs) (32 + length ys) _ _ e) in
     let b = tail-eq (32 + length xs) (32 + length ys) _ _ e in
-    let ks = left-eq 7 (pad 7 (firsts xs)) (pad 8 (seconds xs)) (pad 7 (firsts ys)) (pad 8 (seconds ys)) (length-pad 7 (firsts xs)) (length-pad 7 (firsts ys)) b in
-    let vs = right-eq 7 (pad 7 (firsts xs)) (pad 8 (seconds xs)) (pad 7 (firsts ys)) (pad 8 (seconds ys)) (length-pad 7 (firsts xs)) (length-pad 7 (firsts ys)) b in
+    let kv = append-parts (pad 7 (firsts xs)) (pad 7 (firsts ys)) (pad 8 (seconds xs)) (pad 8 (seconds ys)) (length-pad 7 (firsts xs) ∙ sym (length-pad 7 (firsts ys))) b in
     let a1 = length-map xs (λ (x : Item). x .0) in
     let a2 = length-map ys (λ (x : Item). x .0) in
     let b1 = length-map xs (λ (x : Item). x .1) in
     let b2 = length-map ys (λ (x : Item). x .1) in
-    items-eq xs ys (pad-eq 7 (firsts xs) (firsts ys) (omega arith) (omega arith) ks) (pad-eq 8 (seconds xs) (seconds ys) (omega arith) (omega arith) vs)
+    items-eq xs ys (pad-eq 7 (firsts xs) (firsts ys) (omega arith) (omega arith) (kv .0)) (pad-eq 8 (seconds xs) (seconds ys) (omega arith) (omega arith) (kv .1))
 
 inner-eq : (xs ys : List Item) → 1 ≤ length xs → length xs ≤ 8 → 1 ≤ length ys → innerWords xs ≡ innerWords ys → (length xs ≡ length ys) × (seconds xs ≡ seconds ys)
 inner-eq xs ys l h k e =
     let n : length xs ≡ length ys = omega (arith, word-0 (16 + (length xs - 1)) (16 + (length ys - 1)) _ _ e) in
     let b = tail-eq (16 + (length xs - 1)) (16 + (length ys - 1)) _ _ e in
-    let vs = right-eq 7 (pad 7 (firsts (drop 1 xs))) (pad 8 (seconds xs)) (pad 7 (firsts (drop 1 ys))) (pad 8 (seconds ys)) (length-pad 7 (firsts (drop 1 xs))) (length-pad 7 (firsts (drop 1 ys))) b in
+    let kv = append-parts (pad 7 (firsts (drop 1 xs))) (pad 7 (firsts (drop 1 ys))) (pad 8 (seconds xs)) (pad 8 (seconds ys)) (length-pad 7 (firsts (drop 1 xs)) ∙ sym (length-pad 7 (firsts (drop 1 ys)))) b in
     let b1 = length-map xs (λ (x : Item). x .1) in
     let b2 = length-map ys (λ (x : Item). x .1) in
-    (n, pad-eq 8 (seconds xs) (seconds ys) (omega arith) (omega arith) vs)
+    (n, pad-eq 8 (seconds xs) (seconds ys) (omega arith) (omega arith) (kv .1))
 
 kinds : (xs ys : List Item) → length ys ≤ 8 → leafWords xs ≡ innerWords ys → ⊥
 kinds xs ys h e = omega (arith, word-0 (32 + length xs) (16 + (length ys - 1)) _ _ e)
@@ -104,10 +97,9 @@ row-eq [] (m ∷ B) a b c = absurd (omega (arith, nums-length [] (m ∷ B) a))
 row-eq (n ∷ A) [] a b c = absurd (omega (arith, nums-length (n ∷ A) [] a))
 row-eq (n ∷ A) (m ∷ B) a b c =
     let s = front-eq 0 (size n) (size m) (sizes A) (sizes B) b in
-    let x = left-eq (size m) (n .items) (joined A) (m .items) (joined B) s refl c in
-    let y = right-eq (size m) (n .items) (joined A) (m .items) (joined B) s refl c in
+    let xy = append-parts (n .items) (m .items) (joined A) (joined B) s c in
     let k = front-eq 0 (n .num) (m .num) (nums A) (nums B) a in
-    cons-eq (λ i. node (k i) (x i)) (row-eq A B (tail-eq (n .num) (m .num) (nums A) (nums B) a) (tail-eq (size n) (size m) (sizes A) (sizes B) b) y)
+    cons-eq (λ i. node (k i) (xy .0 i)) (row-eq A B (tail-eq (n .num) (m .num) (nums A) (nums B) a) (tail-eq (size n) (size m) (sizes A) (sizes B) b) (xy .1))
 
 leaf-row-eq : (A B : Row) → nums A ≡ nums B → Fit 7 A → ((j : ℕ) → j < length A → leafWords (itemsAt A j) ≡ leafWords (itemsAt B j)) → A ≡ B
 leaf-row-eq [] [] a f h = refl

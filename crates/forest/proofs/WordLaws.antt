@@ -1,7 +1,7 @@
 -- PROOFS. Where what stands in the words of a well formed pool
 use mathlib.Core.Path.{_≡_, refl, sym, ap, _∙_}
 use mathlib.Core.List.{List, [], _∷_, _++_, map, reverse, append-assoc}
-use mathlib.Core.Bool.{Bool, true, false, _&&_}
+use mathlib.Core.Bool.{_&&_}
 use Prim.Native.Nat.{ℕ, zero, suc, _+_, _-_, _*_, _≤_, _<_}
 use native.Mathlib.Omega.{arith}
 use lib.ListN.{length, take, drop, getD, set, length-map, List·getD-append, List·getD-map}
@@ -14,33 +14,33 @@ use Rattle.forest.specs.Rows.{Row, Tree, nums, itemsAt}
 use Rattle.forest.specs.Trees.{numbers}
 use Rattle.forest.specs.Pools.{Pool, used, WellFormed, treeOf, leafWords, innerWords, inRow, inRows, inTree, inTrees, nodeWords, nodesFrom, root, encode}
 use Rattle.forest.proofs.ListLaws.{is, isnt, test, total-append}
-use Rattle.forest.proofs.CountLaws.{node-length, nodes-length}
+use Rattle.forest.proofs.CountLaws.{small, length-pad, getD-pad, node-length, nodes-length}
 
 pub count-append : (n : ℕ) (xs ys : List ℕ) → count n (xs ++ ys) ≡ count n xs + count n ys
 count-append n xs ys = total-append (λ x. once (eqb n x)) xs ys
 
 -- a number that is not there
 module _ (n : ℕ) where
-  row-miss : (words : List Item → List ℕ) (R : Row) (d : List ℕ) → count n (nums R) ≡ 0 → inRow words n R d ≡ d
+  pub row-miss : (words : List Item → List ℕ) (R : Row) (d : List ℕ) → count n (nums R) ≡ 0 → inRow words n R d ≡ d
   row-miss words [] d c = refl
   row-miss words (m ∷ R) d c = elim (test (eqb n (m .num))) [
     | is e ↦ absurd (let z = simp e at c in omega arith)
     | isnt e ↦ simp e (row-miss words R d (let z = simp e at c in omega arith))
   ]
 
-  rows-miss : (Rs : List Row) (d : List ℕ) → count n (numbers Rs) ≡ 0 → inRows n Rs d ≡ d
+  pub rows-miss : (Rs : List Row) (d : List ℕ) → count n (numbers Rs) ≡ 0 → inRows n Rs d ≡ d
   rows-miss [] d c = refl
   rows-miss (R ∷ Rs) d c =
       let a = count-append n (nums R) (numbers Rs) in
       row-miss innerWords R (inRows n Rs d) (omega arith) ∙ rows-miss Rs d (omega arith)
 
-  tree-miss : (t : Tree) (d : List ℕ) → count n (numbers t) ≡ 0 → inTree n t d ≡ d
+  pub tree-miss : (t : Tree) (d : List ℕ) → count n (numbers t) ≡ 0 → inTree n t d ≡ d
   tree-miss [] d c = refl
   tree-miss (L ∷ Rs) d c =
       let a = count-append n (nums L) (numbers Rs) in
       row-miss leafWords L (inRows n Rs d) (omega arith) ∙ rows-miss Rs d (omega arith)
 
-  trees-miss : (ts : List Tree) (d : List ℕ) → count n (used ts) ≡ 0 → inTrees n ts d ≡ d
+  pub trees-miss : (ts : List Tree) (d : List ℕ) → count n (used ts) ≡ 0 → inTrees n ts d ≡ d
   trees-miss [] d c = refl
   trees-miss (t ∷ ts) d c =
       let a = count-append n (numbers t) (used ts) in
@@ -85,6 +85,11 @@ rows-hit (R ∷ Rs) (suc h) j d a c =
     let f = count-row n Rs h in
     row-miss n innerWords R (inRows n Rs d) (omega arith) ∙ rows-hit Rs h j d a (omega arith)
 
+pub count-tree : (n : ℕ) (us : List Tree) (t : ℕ) → count n (numbers (getD us t [])) ≤ count n (used us)
+count-tree n [] t = omega arith
+count-tree n (u ∷ us) zero = omega (arith, count-append n (numbers u) (used us))
+count-tree n (u ∷ us) (suc t) = omega (arith, count-append n (numbers u) (used us), count-tree n us t)
+
 -- the words of a tree's nodes are found among all trees
 trees-hit : (n : ℕ) (w : List ℕ) (ts : List Tree) (t : ℕ) (d : List ℕ) → ((e : List ℕ) → inTree n (getD ts t []) e ≡ w) → t < length ts →
     1 ≤ count n (numbers (getD ts t [])) → count n (used ts) ≤ 1 → inTrees n ts d ≡ w
@@ -92,23 +97,8 @@ trees-hit n w [] t d f h a c = absurd (omega arith)
 trees-hit n w (y ∷ ts) zero d f h a c = f (inTrees n ts d)
 trees-hit n w (y ∷ ts) (suc t) d f h a c =
     let b = count-append n (numbers y) (used ts) in
-    let e = within ts t in
+    let e = count-tree n ts t in
     tree-miss n y (inTrees n ts d) (omega arith) ∙ trees-hit n w ts t d f (omega arith) a (omega arith)
-  where
-    within : (us : List Tree) (t : ℕ) → count n (numbers (getD us t [])) ≤ count n (used us)
-    within [] t = omega arith
-    within (u ∷ us) zero = omega (arith, count-append n (numbers u) (used us))
-    within (u ∷ us) (suc t) = omega (arith, count-append n (numbers u) (used us), within us t)
-
-pub count-tree : (n : ℕ) (us : List Tree) (t : ℕ) → count n (numbers (getD us t [])) ≤ count n (used us)
-count-tree n [] t = omega arith
-count-tree n (u ∷ us) zero = omega (arith, count-append n (numbers u) (used us))
-count-tree n (u ∷ us) (suc t) = omega (arith, count-append n (numbers u) (used us), count-tree n us t)
-
--- a test as a number is at most 1
-pub small : (b : Bool) → once b ≤ 1
-small true = omega arith
-small false = omega arith
 
 tree-there : (ts : List Tree) (t : ℕ) (L : Row) (Rs : List Row) → getD ts t [] ≡ L ∷ Rs → t < length ts
 tree-there [] t L Rs e = absurd (let y : _≡_ {A = ℕ} 0 1 = cc in omega arith)
@@ -143,6 +133,16 @@ module _ (m : ℕ) (p : Pool) (w : WellFormed m p) where
       let u = used-once n in
       trees-hit n (innerWords (itemsAt (rowAt Rs h) j)) (p .trees) t (pad 16 [])
       (λ o. rw e (row-miss n leafWords L (inRows n Rs o) (omega arith) ∙ rows-hit Rs h j o k (omega arith))) (tree-there (p .trees) t L Rs e) (omega arith) u
+
+-- word i of the keys and of the links in a node's words
+module _ (w : ℕ) (ks vs : List ℕ) (i : ℕ) where
+  pub key-word : i < 7 → getD (w ∷ (pad 7 ks ++ pad 8 vs)) (suc i) 0 ≡ getD ks i 0
+  key-word h = List·getD-append (pad 7 ks) (pad 8 vs) 0 i (omega (arith, length-pad 7 ks)) ∙ getD-pad 7 ks i h
+
+  pub link-word : i < 8 → getD (w ∷ (pad 7 ks ++ pad 8 vs)) (8 + i) 0 ≡ getD vs i 0
+  link-word h =
+      let e : 8 + i ≡ suc (length (pad 7 ks) + i) = omega (arith, length-pad 7 ks) in
+      rw e (getD-append-add (pad 7 ks) (pad 8 vs) i 0 ∙ getD-pad 8 vs i h)
 
 -- a free node
 pub free-words : (ts : List Tree) (n : ℕ) → count n (used ts) ≡ 0 → nodeWords ts n ≡ pad 16 []

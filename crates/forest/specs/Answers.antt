@@ -17,7 +17,7 @@ nothing = record { number = 0; found = false; key = 0; value = 0 }
 abbrev pub found-with : ℕ → ℕ → Answer
 found-with k v = record { number = 0; found = true; key = k; value = v }
 
--- refused by number
+-- a number, and nothing found: refused by it, unless it is 0
 abbrev pub refusal : ℕ → Answer
 refusal n = record { number = n; found = false; key = 0; value = 0 }
 

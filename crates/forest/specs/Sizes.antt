@@ -1,5 +1,5 @@
 -- DEFINITIONS. The sizes of document 01, each in one place
-use Prim.Native.Nat.{ℕ}
+use Prim.Native.Nat.{ℕ, _+_, _-_, _*_}
 
 -- T, the trees of a pool, at most
 abbrev pub mostTrees : ℕ
@@ -36,6 +36,10 @@ innerTag = 16
 -- the words of a node: word 0, then keys, then values or children
 abbrev pub nodeSize : ℕ
 nodeSize = 16
+
+-- where the words of node n start; t trees
+abbrev pub base : ℕ → ℕ → ℕ
+base t n = t + nodeSize * n - 14
 
 -- those for keys, words 1 to 7
 abbrev pub keyWords : ℕ

@@ -1,7 +1,8 @@
-// What every crate of the port shares: the sizes of document 01, a call's answer, and the cursor.
+// What every crate of the port shares: the sizes of document 01, a call's answer, the cursor, and lib.rs's search and moves in a slice.
 ghost use mathlib.Core.Path.{_≡_};
 ghost use Prim.Native.Nat.{_≤_, _<_};
-ghost use lib.ListN.{length};
+ghost use lib.ListN.{length, take};
+ghost use Rattle.forest.specs.Sizes.{keyWords};
 ghost use Rattle.forest.specs.Answers.{answerOf, numberOf};
 ghost use Rattle.forest.specs.Slices.{inserted, shifted, KeysRise, searched};
 
@@ -9,17 +10,13 @@ ghost use Rattle.forest.specs.Slices.{inserted, shifted, KeysRise, searc
 pub const INNER_SIZE: usize = 8;
 // Entries of a leaf at most.
 pub const LEAF_SIZE: usize = 7;
-// Levels that a cursor has room for.
-pub const MAX_PATH: usize = 16;
 // Words of a node.
 pub const NODE_SIZE: usize = 16;
-// Trees and nodes of a pool at most.
+// Trees of a pool at most.
 pub const MAX_TREES: u32 = 32;
-
+// Nodes of a pool at most.
 pub const MAX_NODES: u32 = 512;
-// What word 0 of a node adds to its number of keys.
-pub const INNER_TAG: u32 = 16;
-
+// What word 0 of a leaf adds to its number of entries.
 pub const LEAF_TAG: u32 = 32;
 
 // Why a call is refused.
@@ -64,7 +61,7 @@ pub struct Moved {
 }
 
 // The number of a refusal.
-pub fn number(refusal: Refusal) -> u32
+fn number(refusal: Refusal) -> u32
     ensures { λ r. ⌜ r ≡ numberOf refusal ⌝ }
 {
     match refusal {
@@ -114,22 +111,29 @@ pub enum Found {
     Absent(usize),
 }
 
-// Search for `k` in an ordered slice.
-pub fn search(k: u32, s: &[u32]) -> Found
-    requires { ⌜ KeysRise (now s) ⌝ }
-    ensures { λ r. ⌜ r ≡ searched k (now (s .entry)) ⌝ }
+// Search for `k` among the first `n` of the seven keys of a node, in order; all seven are read, and no jump goes by a key.
+pub fn search(k: u32, s: &[u32], n: usize) -> Found
+    requires { ⌜ (length (now s) ≡ keyWords) × (n ≤ keyWords) ⌝ }
+    requires { ⌜ KeysRise (take n (now s)) ⌝ }
+    ensures { λ r. ⌜ r ≡ searched k (take n (now (s .entry))) ⌝ }
 {
-    let mut i = 0;
-    while i < s.len() {
-        if k <= s[i] {
-            if s[i] == k {
-                return Found::Here(i);
+    let mut place = n;
+    let mut here = false;
+    let mut i = LEAF_SIZE;
+    while 0 < i {
+        i -= 1;
+        let x = s[i];
+        if k <= x {
+            if i < n {
+                place = i;
+                here = x == k;
             }
-            return Found::Absent(i);
         }
-        i += 1;
     }
-    Found::Absent(i)
+    if here {
+        return Found::Here(place);
+    }
+    Found::Absent(place)
 }
 
 // Insert `x` into `s` at position `i`, pushing out the last element.

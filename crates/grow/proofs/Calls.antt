@@ -22,7 +22,7 @@ use Rattle.forest.proofs.TreeLaws.{lands}
 use Rattle.forest.proofs.PoolLaws.{good-at, call-free, call-done, call-refused, refused-four}
 use Rattle.pool.specs.Stores.{put, spell}
 use Rattle.grow.specs.Grows
-use Rattle.grow.specs.Puts.{isAt, replacedWords}
+use Rattle.grow.specs.Puts.{isAt}
 use Rattle.grow.proofs.Pooled
 use Rattle.grow.proofs.Sites.{sceneOf, root-at}
 
@@ -115,8 +115,7 @@ module _ (p : Pools.Pool) (w : Pools.WellFormed leafLeast p) (tree k v : ℕ) (t
       unfolding getTree
       present-held = rw is-tree (ap held (lookup-at k (leafItems k L) rises h))
 
-      pub present-words : replacedWords s e (k, v) ≡ Pools.encode (Pools.done (Pools.put tree k v) p)
-      unfolding replacedWords
+      pub present-words : spell (s .roots) (s .nodes) (put (s .store) (Grows.numAt (s .row) (s .at)) (Pools.leafWords (set (leafItems k L) e (k, v)))) (s .free) ≡ Pools.encode (Pools.done (Pools.put tree k v) p)
       present-words =
           let q = Pooled.put-spell leafLeast (omega arith) (omega arith) p w tree k v there (rw present-need (omega arith)) in
           let z = rw (present-need, is-tree) at q in

@@ -4,7 +4,7 @@ use mathlib.Core.List.{List, [], _∷_, _++_}
 use mathlib.Core.Bool.{true, false}
 use Prim.Native.Nat.{ℕ, zero, suc, _+_, _-_, _≤_, _<_}
 use native.Mathlib.Omega.{arith}
-use lib.ListN.{length, take, length-take, length-drop}
+use lib.ListN.{length, length-take, length-drop}
 use Rattle.forest.proofs.ListLaws.{is, isnt, test, length-insertAt, map-append}
 use lib.Dec.{ltb}
 use borrow.Author.Tests.{lt-ltb, le-ltb, leb-true, leb-false}
@@ -13,7 +13,9 @@ use Rattle.forest.specs.Pairs.{Item}
 use Rattle.grow.specs.Grows.{leftPart, rightPart}
 use Rattle.forest.specs.Rows.{Node, Row, node, size, front, sizes, line, itemsAt, putNode, putRow, full}
 pub use Rattle.pool.specs.Stores.{upd}
-pub use Rattle.pool.proofs.Held.{upd-nums}
+pub use Rattle.pool.proofs.Held.{upd-nums, line-same}
+pub use Rattle.forest.proofs.Descent.{front-take}
+use Rattle.forest.proofs.NodeForms.{front-put}
 
 pub put-with-room : (c j p : ℕ) (x : Item) (new : ℕ) (R : Row) → full c j R ≡ false → putRow c j p x new R ≡ upd j (insertAt p x) R
 unfolding putNode
@@ -34,20 +36,9 @@ line-insert zero n R = refl
 line-insert (suc i) n [] = refl
 line-insert (suc i) n (m ∷ R) = ap ((front (m .items), m .num) ∷_) (line-insert i n R)
 
-pub line-same : (j : ℕ) (f : List Item → List Item) (R : Row) → front (f (itemsAt R j)) ≡ front (itemsAt R j) → line (upd j f R) ≡ line R
-line-same j f [] e = refl
-line-same zero f (n ∷ R) e = ap (λ (a : ℕ). (a, n .num) ∷ line R) e
-line-same (suc j) f (n ∷ R) e = ap ((front (n .items), n .num) ∷_) (line-same j f R e)
-
 -- the first key of a node that takes x behind its first item stays
 pub front-insert : (p : ℕ) (x : Item) (ys : List Item) → 1 ≤ length ys → front (insertAt (suc p) x ys) ≡ front ys
-front-insert p x [] h = absurd (omega arith)
-front-insert p x (y ∷ ys) h = refl
-
-pub front-take : (n : ℕ) (ys : List Item) → 1 ≤ n → front (take n ys) ≡ front ys
-front-take zero ys h = absurd (omega arith)
-front-take (suc n) [] h = refl
-front-take (suc n) (y ∷ ys) h = refl
+front-insert p x ys h = front-put (suc p) x ys (omega arith) h
 
 -- the sizes don't depend on the item
 node-sizes : (c p : ℕ) (x y : Item) (new : ℕ) (n : Node) → sizes (putNode c p x new n) ≡ sizes (putNode c p y new n)

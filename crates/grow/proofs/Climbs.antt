@@ -4,15 +4,14 @@ use mathlib.Core.List.{List, [], _∷_}
 use mathlib.Core.Bool.{true, false, cond}
 use Prim.Native.Nat.{ℕ, suc, _+_, _-_, _≤_, _<_}
 use native.Mathlib.Omega.{arith}
-use lib.ListN.{length, drop, getD, length-map}
+use lib.ListN.{length, drop, getD}
 use borrow.Author.Tests.{le-leb, lt-leb}
 use Rattle.forest.specs.Lists.{sum, count, parent, offset}
 use Rattle.forest.specs.Pairs.{Item}
-use Rattle.forest.specs.Rows.{Row, size, nums, sizes, itemsAt, full, Tower}
+use Rattle.forest.specs.Rows.{Row, nums, sizes, itemsAt, full, Tower}
 use Rattle.forest.specs.Trees.{numbers, needUp}
 use Rattle.forest.specs.Pools.{innerWords}
-use Rattle.forest.proofs.ListLaws.{parent-lt, offset-lt}
-use Rattle.forest.proofs.RowLaws.{sum-sizes, length-line, length-items, fill-at}
+use Rattle.forest.proofs.RowLaws.{sum-sizes, length-line, length-items, fill-at, parent-there, offset-there}
 use Rattle.pool.specs.Stores.{Store, block, Placed}
 use Rattle.pool.proofs.Bridges.{spell-placed, spell-block}
 use Rattle.grow.specs.Grows
@@ -63,7 +62,7 @@ module _ (ws : List ℕ) (t tree : ℕ) (ns ps : List ℕ) where
   seen-rows roots N st free R (S ∷ Ss) i level h u =
       let w : Tower R (S ∷ Ss) = u .tower in
       let b : i < sum (sizes S) = omega (arith, sum-sizes S, ap length (w .1), length-line R, u .within) in
-      let at : parent (sizes S) i < length S = rw (length-map S size) at (parent-lt (sizes S) i b) in
+      let at : parent (sizes S) i < length S = parent-there S i b in
       let l : length Ss ≡ level - 1 = omega (arith, u .levels) in
       let c = Mem.numAt-counts S (parent (sizes S) i) at in
       let p = Mem.parts (Grows.numAt S (parent (sizes S) i)) S Ss in
@@ -73,7 +72,7 @@ module _ (ws : List ℕ) (t tree : ℕ) (ns ps : List ℕ) where
         place = rw l at (u .along .1);
         counts = λ y. Mem.parts y S Ss;
         row-in = at;
-        inside = rw (length-items S (parent (sizes S) i)) (offset-lt (sizes S) i b);
+        inside = offset-there S i b;
         few = rw (length-items S (parent (sizes S) i)) (fill-at 4 8 (sizes S) (parent (sizes S) i) (w .2));
         low = r .0;
         high = r .1;

@@ -1,12 +1,12 @@
 -- PROOFS. Where a path stands in a leaf: its words, the need, and what the steps of the code make of them
 use mathlib.Core.Path.{_≡_, sym, ap, _∙_}
 use mathlib.Core.List.{List}
-use mathlib.Core.Bool.{true, false}
+use mathlib.Core.Bool.{Bool, true, false}
 use Prim.Native.Nat.{ℕ, suc, _+_, _-_, _≤_, _<_}
 use native.Mathlib.Omega.{arith}
 use lib.ListN.{length, drop, getD, length-drop}
 use lib.Seq.{set-getD}
-use borrow.Author.Tests.{le-leb, lt-leb}
+use borrow.Author.Tests.{le-leb, lt-leb, ltb-true, ltb-false}
 use Rattle.forest.specs.Lists.{insertAt, count}
 use Rattle.forest.specs.Pairs.{Item}
 use Rattle.forest.specs.Rows.{front, sizes, itemsAt, keeps, full}
@@ -20,6 +20,7 @@ use Rattle.node.specs.declared.SplitOff.{SplitOff}
 use Rattle.node.specs.Nodes.{Leaf, leafPairs, splitOf}
 use Rattle.node.proofs.Words.{leaf-pairs, leaf-is}
 use Rattle.grow.specs.Grows
+use Rattle.grow.specs.Puts.{LeafPlace, filledWords, Tries}
 use Rattle.grow.proofs.Mem
 use Rattle.grow.proofs.Spelling
 use Rattle.grow.proofs.Cutting
@@ -59,6 +60,22 @@ module _ (ws : List ℕ) (t tree : ℕ) (ns ps : List ℕ) (level : ℕ) where
     pub leaf-full : 39 ≤ getD (block ws t (getD ns level 0)) 0 0 → full 7 (s .at) (s .row) ≡ true
     leaf-full b = let z = rw leaf-block at b in le-leb 7 (getD (sizes (s .row)) (s .at) 0) (omega (arith, length-items (s .row) (s .at)))
 
+    pub leaf-place : LeafPlace ws t (getD ns level 0) (getD ps level 0)
+    leaf-place = record {
+      placed = leaf-placed;
+      leaf = rw leaf-block (leaf-is (leafOf s) (leaf-size .0) (leaf-size .1));
+      inside = rw (leaf-block, d .place) (omega (arith, leaf-inside));
+    }
+
+    pub leaf-items : leafPairs (block ws t (getD ns level 0)) ≡ leafOf s
+    leaf-items = ap leafPairs leaf-block ∙ leaf-pairs (leafOf s) (leaf-size .1)
+
+    -- the leaf gets other items
+    pub leaf-put : (ys : List Item) → withBlock ws t (getD ns level 0) (leafWords ys) ≡ spell (s .roots) (s .nodes) (put (s .store) (leafNum s) (leafWords ys)) (s .free)
+    leaf-put ys =
+        rw (d .node, ← (d .under .words), ← (d .under .trees))
+        (spell-withBlock (s .roots) (s .nodes) (s .store) (s .free) (d .under .sixteen) (leafNum s) (leaf-range .0) (leaf-range .1) _ (Spelling.leaf-length ys))
+
   -- for each scene of these words
   pub load-leaf : Grows.Lands ws t tree ns ps level → Placed ws t (getD ns level 0)
   load-leaf g = leaf-placed (g .scene) (g .entry) (g .land)
@@ -91,40 +108,40 @@ landed-full : (s : Grows.Scene) (p tree : ℕ) (x : Item) → full 7 (s .at) (s 
 unfolding Grows.landedWords Grows.climbed
 landed-full s p tree x q = simp (q, drop-one)
 
+-- after a try to put it in the leaf as it is
+module _ (ws : List ℕ) (t tree : ℕ) (ns ps : List ℕ) (level : ℕ) (x : Item) (o : List ℕ) (b : Bool) (f : Tries t (getD ns level 0) (getD ps level 0) x ws o b) where
+  -- there was room
+  module _ (z : b ≡ true) (s : Grows.Scene) (p : ℕ) (d : Grows.Land s p ws t tree ns ps level) where
+    pub has-room : full 7 (s .at) (s .row) ≡ false
+    has-room = leaf-room ws t tree ns ps level s p d (ltb-true _ _ (sym (f .room) ∙ z))
+
+    pub room-done : o ≡ Grows.landedWords s p tree x
+    unfolding filledWords
+    room-done =
+        f .done-words z ∙
+        rw (leaf-items ws t tree ns ps level s p d, d .place) (leaf-put ws t tree ns ps level s p d (insertAt p x (leafOf s))) ∙
+        sym (landed-room s p tree x (d .under .root) has-room)
+
+  -- there was none, and nothing has happened
+  module _ (z : b ≡ false) where
+    pub still-fits : Grows.Fits ws t tree ns ps level → Grows.Fits o t tree ns ps level
+    still-fits g = rw (f .full-words z) g
+
+    pub still-landed : (s : Grows.Scene) (p : ℕ) → Grows.Landed s p ws t tree ns ps level → Grows.Landed s p o t tree ns ps level
+    still-landed s p g = rw (f .full-words z) g
+
+    pub full-word : (w : List ℕ) → w ≡ block o t (getD ns level 0) → 39 ≤ getD w 0 0
+    full-word w e = rw (e, f .full-words z) (ltb-false _ _ (sym (f .room) ∙ z))
+
 module _ (ws : List ℕ) (t tree : ℕ) (ns ps : List ℕ) (level : ℕ) (w : List ℕ) (e : w ≡ block ws t (getD ns level 0)) where
   module _ (s : Grows.Scene) (p : ℕ) (d : Grows.Land s p ws t tree ns ps level) where
-    pub is-leaf : w ≡ leafWords (leafOf s)
-    is-leaf = e ∙ leaf-block ws t tree ns ps level s p d
-
-    pub first-word : getD w 0 0 ≡ 32 + length (leafOf s)
-    first-word = ap (λ (v : List ℕ). getD v 0 0) is-leaf
-
-    leaf-words : Leaf w
-    leaf-words = let z = leaf-size ws t tree ns ps level s p d in rw is-leaf (leaf-is (leafOf s) (z .0) (z .1))
-
-    pub insert-asks : getD w 0 0 < 39 → Leaf w × (getD w 0 0 < 39) × (getD ps level 0 ≤ getD w 0 0 - 32)
-    insert-asks h = (leaf-words, h, rw (d .place) (omega (arith, first-word, leaf-inside ws t tree ns ps level s p d)))
-
     pub split-asks : 39 ≤ getD w 0 0 → Leaf w × (getD w 0 0 ≡ 39) × (getD ps level 0 ≤ 7)
     split-asks h =
-        let z = leaf-size ws t tree ns ps level s p d in
-        (leaf-words, omega (arith, first-word), rw (d .place) (omega (arith, leaf-inside ws t tree ns ps level s p d)))
+        let leaf : Leaf w = rw e ((leaf-place ws t tree ns ps level s p d) .leaf) in
+        (leaf, omega (arith, leaf .few), rw (d .place) (omega (arith, leaf-inside ws t tree ns ps level s p d, leaf-size ws t tree ns ps level s p d)))
 
     pub pairs-are : leafPairs w ≡ leafOf s
-    pairs-are = ap leafPairs is-leaf ∙ leaf-pairs (leafOf s) ((leaf-size ws t tree ns ps level s p d) .1)
-
-  -- a leaf with room
-  pub room-done : (key value : ℕ) (v o : List ℕ) → getD w 0 0 < 39 → v ≡ leafWords (insertAt (getD ps level 0) (key, value) (leafPairs w)) → o ≡ withBlock ws t (getD ns level 0) v →
-      (s : Grows.Scene) (p : ℕ) → Grows.Landed s p ws t tree ns ps level → o ≡ Grows.landedWords s p tree (key, value)
-  room-done key value v o h k f s p g =
-      let d = g .land in
-      let u = d .under in
-      let r = leaf-range ws t tree ns ps level s p d in
-      let z : v ≡ leafWords (insertAt p (key, value) (leafOf s)) = k ∙ rw (pairs-are s p d, d .place) in
-      f ∙
-      rw (z, d .node, ← (u .words), ← (u .trees))
-      (spell-withBlock (s .roots) (s .nodes) (s .store) (s .free) (u .sixteen) (leafNum s) (r .0) (r .1) _ (Spelling.leaf-length (insertAt p (key, value) (leafOf s))) ∙
-      sym (landed-room s p tree (key, value) (u .root) (leaf-room ws t tree ns ps level s p d (rw e at h))))
+    pairs-are = ap leafPairs e ∙ leaf-items ws t tree ns ps level s p d
 
   -- a full one
   module _ (key value : ℕ) (r : SplitOff) (q : r ≡ splitOf leafWords (keeps 7 (getD ps level 0)) (getD ps level 0) (insertAt (getD ps level 0) (key, value) (leafPairs w)))
@@ -180,7 +197,3 @@ module _ (ws : List ℕ) (t tree : ℕ) (ns ps : List ℕ) (level : ℕ) (w : Li
           o ≡ Grows.landedWords s p tree x
       climb-done rhs o a ens =
           ens (cutLeaf s p x) climb-asks ∙ rw (key-is, a, Cutting.top-is ws t tree ns ps level s u some-free) (landed-full s p tree x is-full)
-
-  -- what the code asks of some scene
-  pub fits-lands : Grows.Fits ws t tree ns ps level → Grows.Lands ws t tree ns ps level
-  fits-lands g = record { scene = g .scene; entry = g .entry; land = g .landed .land }

@@ -23,11 +23,9 @@ use Rattle.grow.proofs.Lead
 use Rattle.grow.proofs.Change
 use Rattle.grow.proofs.Mem
 use Rattle.grow.proofs.Up
+pub use Rattle.pool.proofs.HeldTrees.{HoldsTree}
 use Rattle.forest.proofs.FrameLaws.{upto-at, place-some, some-at, root-refresh}
-
-abbrev pub HoldsTree : Store → Tree → Type 0
-HoldsTree st [] = Unit {0}
-HoldsTree st (L ∷ Rs) = Holds leafWords st L × HoldsUp st Rs
+use Rattle.forest.proofs.NodeForms.{front-put}
 
 -- the store and the root after a put
 abbrev pub putStore : ℕ → ℕ → List ℕ → Tree → Store → Store
@@ -61,10 +59,6 @@ led : (j : ℕ) (g : List Item → List Item) (L : Row) → j < length L → (1 
 led j g [] h e = absurd (omega arith)
 led zero g (n ∷ L) h e = record { first = front (g (n .items)); same = refl }
 led (suc j) g (n ∷ L) h e = record { first = front (n .items); same = Change.line-same (suc j) g (n ∷ L) (e (omega arith)) }
-
-front-put : (p : ℕ) (x : Item) (ys : List Item) → 1 ≤ p → 1 ≤ length ys → front (insertAt p x ys) ≡ front ys
-front-put zero x ys h k = absurd (omega arith)
-front-put (suc p) x ys h k = Change.front-insert p x ys k
 
 set-upd : (j p : ℕ) (x : Item) (L : Row) → setRow j p x L ≡ Change.upd j (λ ys. set ys p x) L
 set-upd j p x [] = refl

@@ -11,6 +11,7 @@ pub mod Steps
 pub mod Landings
 pub mod Sites
 pub mod Calls
+pub mod InPlace
 pub mod Replacing
 pub mod Putting
 pub mod PutAt

@@ -13,15 +13,13 @@ use Rattle.forest.specs.Pools.{leafWords}
 use Rattle.forest.specs.declared.Reply.the-variants.{Nothing, Value, Refused}
 use Rattle.forest.specs.declared.Refusal.the-variants.{NoRoom}
 use Rattle.forest.proofs.ListLaws.{is, isnt, test, map-set, set-right}
-use Rattle.forest.proofs.CountLaws.{length-pad}
-use Rattle.pool.specs.Stores.{block, withBlock, stackAt, frees}
-use Rattle.pool.proofs.Bridges.{spell-length, spell-stackAt, spell-frees, spell-withBlock}
-use Rattle.node.specs.Nodes.{leafItem, entriesOf}
-use Rattle.node.proofs.Words.{leaf-key, leaf-value, leaf-entries}
+use Rattle.forest.proofs.CountLaws.{length-pad, set-pad}
+use Rattle.pool.specs.Stores.{base, block, withBlock, stackAt, frees}
+use Rattle.pool.proofs.Bridges.{spell-length, spell-stackAt, spell-frees}
+use Rattle.node.specs.Nodes.{leafPairs}
 use Rattle.grow.specs.Grows
-use Rattle.grow.specs.Puts.{isAt, replacedWords, Replaces, Adds}
-use Rattle.grow.proofs.Spelling
-use Rattle.grow.proofs.Landings.{leafOf, leafNum, leaf-range, leaf-size, is-leaf, first-word}
+use Rattle.grow.specs.Puts.{LeafPlace, isAt, replacedWords, Replaces, Adds}
+use Rattle.grow.proofs.InPlace
 
 -- Is the key at the place
 at-beyond : (ys : List Item) (p k : ℕ) → length ys ≤ p → isAt ys p k ≡ false
@@ -37,12 +35,6 @@ unfolding isAt
 at-same ys p k h e = simp (lt-ltb p (length ys) h, eq-eqb (getD ys p (0, 0) .0) k e)
 
 -- a value set in the words of a leaf
-set-pad : (n p v : ℕ) (xs : List ℕ) → p < length xs → set (pad n xs) p v ≡ pad n (set xs p v)
-set-pad zero p v xs h = refl
-set-pad (suc n) p v [] h = absurd (omega arith)
-set-pad (suc n) zero v (x ∷ xs) h = refl
-set-pad (suc n) (suc p) v (x ∷ xs) h = ap (x ∷_) (set-pad n p v xs (omega arith))
-
 same-keys : (ys : List Item) (p k v : ℕ) → getD ys p (0, 0) .0 ≡ k → p < length ys → map (λ (x : Item). x .0) (set ys p (k, v)) ≡ map (λ (x : Item). x .0) ys
 same-keys [] p k v e h = refl
 same-keys (y ∷ ys) zero k v e h = ap (_∷ map (λ (x : Item). x .0) ys) (sym e)
@@ -57,72 +49,46 @@ value-set ys p k v h e =
     let n = length-map ys (λ (x : Item). x .1) in
     rw (z, length-set ys p (k, v), same-keys ys p k v e h, map-set (λ (x : Item). x .1) p (k, v) ys)
     (ap ((32 + length ys) ∷_) (set-right p v (pad 7 (map (λ (x : Item). x .0) ys)) (pad 8 (map (λ (x : Item). x .1) ys)) ∙
-    ap (pad 7 (map (λ (x : Item). x .0) ys) ++_) (set-pad 8 p v (map (λ (x : Item). x .1) ys) (omega arith))))
+    ap (pad 7 (map (λ (x : Item). x .0) ys) ++_) (set-pad 8 (map (λ (x : Item). x .1) ys) p v (omega arith))))
 
-module _ (ws : List ℕ) (t tree : ℕ) (ns ps : List ℕ) (level : ℕ) (w : List ℕ) (e : w ≡ block ws t (getD ns level 0)) where
-  module _ (s : Grows.Scene) (p : ℕ) (d : Grows.Land s p ws t tree ns ps level) where
-    pub word-asks : 16 ≤ getD w 0 0
-    word-asks = omega (arith, first-word ws t tree ns ps level w e s p d)
+module _ (ws : List ℕ) (t n p : ℕ) (g : LeafPlace ws t n p) where
+  abbrev items : List Item
+  items = leafPairs (block ws t n)
 
-    pub entries-are : (n : ℕ) → n ≡ entriesOf w → n ≡ length (leafOf s)
-    entries-are n q = let f = first-word ws t tree ns ps level w e s p d in q ∙ leaf-entries w (omega arith) ∙ omega arith
+  -- the key is not at the place
+  miss : (k v : ℕ) → isAt items p k ≡ false → Replaces t n p k v ws ws Nothing
+  miss k v z = record {
+    hit-words = λ y. absurd (true≢false (sym y ∙ z));
+    hit-reply = λ y. absurd (true≢false (sym y ∙ z));
+    miss-words = λ y. refl;
+    miss-reply = λ y. refl;
+  }
 
-    pub place-asks : (n : ℕ) → n ≡ entriesOf w → getD ps level 0 < n → getD ps level 0 < 7
-    place-asks n q h = omega (arith, entries-are n q, leaf-size ws t tree ns ps level s p d)
+  pub miss-end : (k v : ℕ) → getD ws (base t n) 0 ≤ p + 32 → Replaces t n p k v ws ws Nothing
+  miss-end k v h = miss k v (at-beyond items p k (omega (arith, InPlace.first-is ws t n p g)))
 
-    pub key-is : (key : ℕ) → key ≡ leafItem w (getD ps level 0) .0 → getD ps level 0 < 7 → key ≡ getD (leafOf s) p (0, 0) .0
-    key-is key q h =
-        let z : 1 + getD ps level 0 ≡ suc (getD ps level 0) = omega arith in
-        let b : p < 7 = omega (arith, d .place) in
-        q ∙ rw (z, d .place, is-leaf ws t tree ns ps level w e s p d) (leaf-key (leafOf s) p b)
+  module _ (k v : ℕ) (h : p + 32 < getD ws (base t n) 0) where
+    within : p < length items
+    within = omega (arith, InPlace.first-is ws t n p g)
 
-    pub value-is : (value : ℕ) → value ≡ leafItem w (getD ps level 0) .1 → getD ps level 0 < 7 → value ≡ getD (leafOf s) p (0, 0) .1
-    value-is value q h =
-        let b : p < 8 = omega (arith, d .place) in
-        q ∙ rw (d .place, is-leaf ws t tree ns ps level w e s p d) (leaf-value (leafOf s) p b)
+    seven : p < 7
+    seven = omega (arith, within, InPlace.few ws t n p g)
 
-  -- the place is behind the last entry
-  pub miss-end : (k v n : ℕ) → n ≡ entriesOf w → n ≤ getD ps level 0 → (s : Grows.Scene) (p : ℕ) → Grows.Land s p ws t tree ns ps level → Replaces s p k v ws ws Nothing
-  miss-end k v n q h s p d =
-      let z : isAt (leafOf s) p k ≡ false = at-beyond (leafOf s) p k (omega (arith, entries-are s p d n q, d .place)) in
-      record {
-        hit-words = λ y. absurd (true≢false (sym y ∙ z));
-        hit-reply = λ y. absurd (true≢false (sym y ∙ z));
-        miss-words = λ y. refl;
-        miss-reply = λ y. refl;
-      }
+    pub miss-key : (getD ws (base t n + 1 + p) 0 ≡ k → ⊥) → Replaces t n p k v ws ws Nothing
+    miss-key z = miss k v (at-other items p k (λ y. z (InPlace.key-at ws t n p g seven ∙ y)))
 
-  -- another key is there
-  pub miss-key : (k v n key : ℕ) → n ≡ entriesOf w → getD ps level 0 < n → key ≡ leafItem w (getD ps level 0) .0 → (key ≡ k → ⊥) →
-      (s : Grows.Scene) (p : ℕ) → Grows.Land s p ws t tree ns ps level → Replaces s p k v ws ws Nothing
-  miss-key k v n key q h a b s p d =
-      let z : isAt (leafOf s) p k ≡ false = at-other (leafOf s) p k (λ y. b (key-is s p d key a (place-asks s p d n q h) ∙ y)) in
-      record {
-        hit-words = λ y. absurd (true≢false (sym y ∙ z));
-        hit-reply = λ y. absurd (true≢false (sym y ∙ z));
-        miss-words = λ y. refl;
-        miss-reply = λ y. refl;
-      }
-
-  -- the key is there
-  pub hit : (k v n key old : ℕ) (o : List ℕ) → n ≡ entriesOf w → getD ps level 0 < n → key ≡ leafItem w (getD ps level 0) .0 → key ≡ k → old ≡ leafItem w (getD ps level 0) .1 →
-      o ≡ withBlock ws t (getD ns level 0) (set w (8 + getD ps level 0) v) → (s : Grows.Scene) (p : ℕ) → Grows.Land s p ws t tree ns ps level → Replaces s p k v ws o (Value old)
-  unfolding replacedWords
-  hit k v n key old o q h a b c f s p d =
-      let u = d .under in
-      let r = leaf-range ws t tree ns ps level s p d in
-      let seven = place-asks s p d n q h in
-      let key-at : getD (leafOf s) p (0, 0) .0 ≡ k = sym (key-is s p d key a seven) ∙ b in
-      let inside : p < length (leafOf s) = omega (arith, entries-are s p d n q, d .place) in
-      let z : isAt (leafOf s) p k ≡ true = at-same (leafOf s) p k inside key-at in
-      let y : set w (8 + getD ps level 0) v ≡ leafWords (set (leafOf s) p (k, v)) = rw (is-leaf ws t tree ns ps level w e s p d, d .place) (value-set (leafOf s) p k v inside key-at) in
-      record {
-        hit-words = λ x. f ∙ rw (y, d .node, ← (u .words), ← (u .trees))
-            (spell-withBlock (s .roots) (s .nodes) (s .store) (s .free) (u .sixteen) (leafNum s) (r .0) (r .1) _ (Spelling.leaf-length (set (leafOf s) p (k, v))));
-        hit-reply = λ x. ap Value (value-is s p d old c seven);
-        miss-words = λ x. absurd (true≢false (sym z ∙ x));
-        miss-reply = λ x. absurd (true≢false (sym z ∙ x));
-      }
+    -- it is
+    pub hit : getD ws (base t n + 1 + p) 0 ≡ k → Replaces t n p k v ws (set ws (base t n + 8 + p) v) (Value (getD ws (base t n + 8 + p) 0))
+    unfolding replacedWords
+    hit e =
+        let key-is : getD items p (0, 0) .0 ≡ k = sym (InPlace.key-at ws t n p g seven) ∙ e in
+        let z : isAt items p k ≡ true = at-same items p k within key-is in
+        record {
+          hit-words = λ y. InPlace.value-put ws t n p g v seven ∙ ap (withBlock ws t n) (value-set items p k v within key-is);
+          hit-reply = λ y. ap Value (InPlace.value-at ws t n p g seven);
+          miss-words = λ y. absurd (true≢false (sym z ∙ y));
+          miss-reply = λ y. absurd (true≢false (sym z ∙ y));
+        }
 
 -- An absent key
 module _ (ws : List ℕ) (t tree : ℕ) (ns ps : List ℕ) (level : ℕ) where

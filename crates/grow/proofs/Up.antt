@@ -4,16 +4,16 @@ use mathlib.Core.List.{List, [], _∷_}
 use mathlib.Core.Bool.{true, false}
 use Prim.Native.Nat.{ℕ, zero, suc, _+_, _-_, _≤_, _<_}
 use native.Mathlib.Omega.{arith}
-use lib.ListN.{length, take, drop, getD, length-map}
+use lib.ListN.{length, take, drop, getD}
 use lib.Dec.{eqb}
 use borrow.Author.Tests.{eq-eqb}
 use Rattle.forest.specs.Lists.{insertAt, sum, once, count, parent, offset}
 use Rattle.forest.specs.Pairs.{Item}
-use Rattle.forest.specs.Rows.{Row, node, size, front, nums, sizes, joined, line, itemsAt, keeps, putRow, full, rekey, refresh, Tower}
+use Rattle.forest.specs.Rows.{Row, node, front, nums, sizes, joined, line, itemsAt, keeps, putRow, full, rekey, refresh, Tower}
 use Rattle.forest.specs.Trees.{numbers, seat, growUp, needUp}
 use Rattle.forest.specs.Pools.{innerWords, rootAbove}
-use Rattle.forest.proofs.ListLaws.{is, isnt, test, total-insertAt, parent-lt, offset-lt, parent-start}
-use Rattle.forest.proofs.RowLaws.{sum-sizes, length-line, length-items, putRow-joined, putRow-room, putRow-full, putRow-fill, keeps-fits}
+use Rattle.forest.proofs.ListLaws.{is, isnt, test, total-insertAt, offset-lt, parent-start}
+use Rattle.forest.proofs.RowLaws.{sum-sizes, length-line, length-items, putRow-joined, putRow-room, putRow-full, putRow-fill, keeps-fits, parent-there}
 use Rattle.forest.proofs.TreeLaws.{NoneEmpty, none-empty}
 use Rattle.forest.proofs.TowerLaws
 use Rattle.pool.specs.Stores.{Store, put}
@@ -52,7 +52,7 @@ module _ (f : ℕ) (R R′ S : Row) (Ss : List Row) (i : ℕ) (x : Item) (new : 
   in-sum = omega (arith, sum-sizes S, ap length (w .1), length-line R)
 
   pub par-in : par < length S
-  par-in = rw (length-map S size) at (parent-lt (sizes S) i in-sum)
+  par-in = parent-there S i in-sum
 
   pub off-in : off < getD (sizes S) par 0
   off-in = offset-lt (sizes S) i in-sum
@@ -123,7 +123,7 @@ cut-keeps enc st a ls b rs y p q = put-other (put st a (enc ls)) b (enc rs) y q 
 -- Only numbers of the rows, and those taken, change
 module _ (r i : ℕ) (x : Item) (n : ℕ) (S : Row) (Ss : List Row) (b : i < n) (l : TowerLaws.Levels n (S ∷ Ss)) (y : ℕ) where
   level-at : parent (sizes S) i < length S
-  level-at = rw (length-map S size) at (parent-lt (sizes S) i (omega arith))
+  level-at = parent-there S i (omega arith)
 
   not-at : count y (numbers (S ∷ Ss)) ≡ 0 → y ≡ numAt S (parent (sizes S) i) → ⊥
   not-at c = Mem.apart (nums S) y (numAt S (parent (sizes S) i)) (omega (arith, Mem.parts y S Ss)) (Mem.numAt-counts S (parent (sizes S) i) level-at)

@@ -23,10 +23,11 @@ plantedWords ws t tree w = set (withBlock (takenWords ws t) t (topNode ws t) w) 
 unfoldable pub cutWords : List ℕ → ℕ → ℕ → List ℕ → List ℕ → List ℕ
 cutWords ws t n left right = withBlock (withBlock (takenWords ws t) t n left) t (topNode ws t) right
 
--- what a full node of c keeps that gets x at place p, and what goes to its new right neighbour
+-- what a full node of c keeps that gets x at place p
 abbrev pub leftPart : ℕ → ℕ → Item → List Item → List Item
 leftPart c p x ys = take (keeps c p) (insertAt p x ys)
 
+-- what goes to its new right neighbour
 abbrev pub rightPart : ℕ → ℕ → Item → List Item → List Item
 rightPart c p x ys = drop (keeps c p) (insertAt p x ys)
 
@@ -57,6 +58,7 @@ leafStore j p x new L Rs st =
     (cutStore leafWords (numAt L j) (leftPart leafCap p x (itemsAt L j)) (getD new 0 0) (rightPart leafCap p x (itemsAt L j)) st))
     (put st (numAt L j) (leafWords (insertAt p x (itemsAt L j))))
 
+-- the root afterwards
 abbrev pub leafRoot : ℕ → List ℕ → Row → List Row → ℕ
 leafRoot j new L Rs = cond (full leafCap j L) (upRoot (rootAbove L Rs) j (drop 1 new) Rs) (rootAbove L Rs)
 
@@ -109,6 +111,7 @@ pub record Climb (s : Scene) (ws : List ℕ) (t tree : ℕ) (ns ps : List ℕ) (
   pub under : Under s ws t tree ns ps level
   pub enough : needUp (s .at) (s .rows) ≤ length (s .free)
 
+-- there is such a scene
 pub record Climbs (ws : List ℕ) (t tree : ℕ) (ns ps : List ℕ) (level : ℕ) : Type 0 where
   pub scene : Scene
   pub climb : Climb scene ws t tree ns ps level
@@ -132,6 +135,7 @@ pub record Land (s : Scene) (p : ℕ) (ws : List ℕ) (t tree : ℕ) (ns ps : Li
   pub once-more : (y : ℕ) → count y (nums (s .row)) + count y (numbers (s .rows)) + count y (s .free) ≤ 1
   pub range-more : (y : ℕ) → 1 ≤ count y (nums (s .row)) → (1 ≤ y) × (y ≤ s .nodes)
 
+-- there is such a scene, and a place
 pub record Lands (ws : List ℕ) (t tree : ℕ) (ns ps : List ℕ) (level : ℕ) : Type 0 where
   pub scene : Scene
   pub entry : ℕ
@@ -141,10 +145,12 @@ pub record Lands (ws : List ℕ) (t tree : ℕ) (ns ps : List ℕ) (level : ℕ)
 abbrev pub leafNeed : Scene → ℕ
 leafNeed s = cond (full leafCap (s .at) (s .row)) (suc (needUp (s .at) (s .rows))) 0
 
+-- and nodes enough for the entry
 pub record Landed (s : Scene) (p : ℕ) (ws : List ℕ) (t tree : ℕ) (ns ps : List ℕ) (level : ℕ) : Type 0 where
   pub land : Land s p ws t tree ns ps level
   pub enough : leafNeed s ≤ length (s .free)
 
+-- there is such a scene, and a place
 pub record Fits (ws : List ℕ) (t tree : ℕ) (ns ps : List ℕ) (level : ℕ) : Type 0 where
   pub scene : Scene
   pub entry : ℕ

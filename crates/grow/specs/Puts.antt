@@ -6,34 +6,49 @@ use Prim.Native.Nat.{ℕ, _+_, _-_, _≤_, _<_}
 use lib.ListN.{length, getD, set}
 use lib.Dec.{ltb, eqb}
 use Rattle.forest.specs.Sizes.{leafLeast}
+use Rattle.forest.specs.Lists.{insertAt}
 use Rattle.forest.specs.Pairs.{Item}
-use Rattle.forest.specs.Rows.{itemsAt}
 use Rattle.forest.specs.Answers.{answerOf}
 use Rattle.forest.specs.Pools.{Pool, WellFormed, encode, leafWords, call}
 use Rattle.forest.specs.Pools as Pools
 use Rattle.forest.specs.declared.Reply.{Reply}
 use Rattle.forest.specs.declared.Reply.the-variants.{Nothing, Value, Refused}
 use Rattle.forest.specs.declared.Refusal.the-variants.{NoRoom}
-use Rattle.forest.specs.Cursors.{seek}
-use Rattle.forest.specs.declared.Cursor.{Cursor}
-use Rattle.pool.specs.Stores.{put, spell}
-use Rattle.path.specs.Cores.{Ready, Goes}
-use Rattle.grow.specs.Grows.{Scene, numAt, leafNeed, landedWords}
+use Rattle.pool.specs.Stores.{block, withBlock, Placed}
+use Rattle.node.specs.Nodes.{Leaf, leafPairs}
+use Rattle.path.specs.Cores.{Ready}
+use Rattle.grow.specs.Grows.{Scene, leafNeed, landedWords}
 
 -- is key k at place p
 unfoldable pub isAt : List Item → ℕ → ℕ → Bool
 isAt ys p k = cond (ltb p (length ys)) (eqb (getD ys p (0, 0) .0) k) false
 
--- the words with x instead of the entry at place p of the leaf
-unfoldable pub replacedWords : Scene → ℕ → Item → List ℕ
-replacedWords s p x = spell (s .roots) (s .nodes) (put (s .store) (numAt (s .row) (s .at)) (leafWords (set (itemsAt (s .row) (s .at)) p x))) (s .free)
+-- node n has its place and is a leaf, and p is the place of an entry or the one behind the last
+pub record LeafPlace (ws : List ℕ) (t n p : ℕ) : Type 0 where
+  pub placed : Placed ws t n
+  pub leaf : Leaf (block ws t n)
+  pub inside : p + 32 ≤ getD (block ws t n) 0 0
+
+-- the words with x instead of the entry at place p of leaf n
+unfoldable pub replacedWords : List ℕ → ℕ → ℕ → ℕ → Item → List ℕ
+replacedWords ws t n p x = withBlock ws t n (leafWords (set (leafPairs (block ws t n)) p x))
+
+-- the words with x come to place p of leaf n
+unfoldable pub filledWords : List ℕ → ℕ → ℕ → ℕ → Item → List ℕ
+filledWords ws t n p x = withBlock ws t n (leafWords (insertAt p x (leafPairs (block ws t n))))
+
+-- an entry comes to a leaf with room; else nothing happens
+pub record Tries (t n p : ℕ) (x : Item) (before after : List ℕ) (r : Bool) : Type 0 where
+  pub room : r ≡ ltb (getD (block before t n) 0 0) 39
+  pub done-words : r ≡ true → after ≡ filledWords before t n p x
+  pub full-words : r ≡ false → after ≡ before
 
 -- a key that is there gets its value anew, and its earlier one is told; else nothing happens
-pub record Replaces (s : Scene) (p k v : ℕ) (before after : List ℕ) (r : Reply) : Type 0 where
-  pub hit-words : isAt (itemsAt (s .row) (s .at)) p k ≡ true → after ≡ replacedWords s p (k, v)
-  pub hit-reply : isAt (itemsAt (s .row) (s .at)) p k ≡ true → r ≡ Value (getD (itemsAt (s .row) (s .at)) p (0, 0) .1)
-  pub miss-words : isAt (itemsAt (s .row) (s .at)) p k ≡ false → after ≡ before
-  pub miss-reply : isAt (itemsAt (s .row) (s .at)) p k ≡ false → r ≡ Nothing
+pub record Replaces (t n p k v : ℕ) (before after : List ℕ) (r : Reply) : Type 0 where
+  pub hit-words : isAt (leafPairs (block before t n)) p k ≡ true → after ≡ replacedWords before t n p (k, v)
+  pub hit-reply : isAt (leafPairs (block before t n)) p k ≡ true → r ≡ Value (getD (leafPairs (block before t n)) p (0, 0) .1)
+  pub miss-words : isAt (leafPairs (block before t n)) p k ≡ false → after ≡ before
+  pub miss-reply : isAt (leafPairs (block before t n)) p k ≡ false → r ≡ Nothing
 
 -- an absent key comes if there are nodes enough
 pub record Adds (s : Scene) (p tree : ℕ) (x : Item) (before after : List ℕ) (r : Reply) : Type 0 where
@@ -51,9 +66,3 @@ pub record Puts (tree k v : ℕ) (before after : List ℕ) (r : Reply) : Type 0 
 pub record Empty (ws : List ℕ) (t tree : ℕ) : Type 0 where
   pub ready : Ready ws t tree
   pub root : getD ws (tree + 1) 0 ≡ 0
-
--- or one that is not, and the path of a key in it
-pub record Found (ws : List ℕ) (t k : ℕ) (c : Cursor) : Type 0 where
-  pub ready : Ready ws t (c .tree)
-  pub root : 1 ≤ getD ws (c .tree + 1) 0
-  pub goes : Goes (seek k) ws (c .tree) c

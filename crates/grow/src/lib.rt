@@ -5,7 +5,7 @@ ghost use lib.ListN.{length};
 ghost use Rattle.forest.specs.Trees.{needUp};
 ghost use Rattle.pool.specs.Stores.{topNode};
 ghost use Rattle.path.specs.Cores.{Ready};
-ghost use Rattle.grow.specs.Puts.{Replaces, Adds, Puts, Empty, Found};
+ghost use Rattle.grow.specs.Puts.{LeafPlace, Tries, Replaces, Adds, Puts, Empty};
 ghost use Rattle.grow.specs.Grows.{plantedWords, cutWords, Takes, Cuts};
 ghost use Rattle.grow.specs.Grows.{Scene, Under, Unders, Climb, Climbs, climbed, Land, Lands, leafNeed, Landed, Fits, landedWords};
 use forest::Cursor;
@@ -53,7 +53,7 @@ fn need_above(ws: &[u32], t: usize, c: Cursor, level: usize) -> u32
 }
 
 // How many nodes a new entry takes where the path stands.
-pub fn need(ws: &[u32], t: usize, c: Cursor) -> u32
+fn need(ws: &[u32], t: usize, c: Cursor) -> u32
     requires { ⌜ (1 ≤ c .size) × Lands (now ws) t (c .tree) (c .nodes) (c .places) (c .size - 1) ⌝ }
     ensures { λ r. ⌜ ((s : Scene) (p : ℕ) → Land s p (now (ws .entry)) t (c .tree) (c .nodes) (c .places) (c .size - 1) → r ≡ leafNeed s) ⌝ }
 {
@@ -90,44 +90,55 @@ fn split_and_insert(ws: &mut [u32], t: usize, c: Cursor, level: usize, key: u32,
     split_and_insert(ws, t, c, level - 1, split.key, rhs);
 }
 
+// The entry comes to place `at` of leaf n, in place, if there is room.
+fn try_leaf_insert(ws: &mut [u32], t: usize, n: u32, at: usize, key: u32, value: u32) -> bool
+    requires { ⌜ LeafPlace (now ws) t n at ⌝ }
+    ensures { λ r. ⌜ Tries t n at (key, value) (now (ws .entry)) (now (ws .exit)) r ⌝ }
+{
+    let b = t + 16 * (n as usize) - 14;
+    let w = ws[b];
+    if 39 <= w {
+        return false;
+    }
+    let size = (w - 32) as usize;
+    forest::slice_insert(&mut ws[b + 1..b + 2 + size], at, key);
+    forest::slice_insert(&mut ws[b + 8..b + 9 + size], at, value);
+    ws[b] = w + 1;
+    true
+}
+
 // The entry comes where the path stands; there are nodes enough.
-pub fn insert(ws: &mut [u32], t: usize, c: Cursor, key: u32, value: u32)
+fn insert(ws: &mut [u32], t: usize, c: Cursor, key: u32, value: u32)
     requires { ⌜ (1 ≤ c .size) × Fits (now ws) t (c .tree) (c .nodes) (c .places) (c .size - 1) ⌝ }
     ensures { λ _. ⌜ ((s : Scene) (p : ℕ) → Landed s p (now (ws .entry)) t (c .tree) (c .nodes) (c .places) (c .size - 1) → now (ws .exit) ≡ landedWords s p (c .tree) (key, value)) ⌝ }
 {
     let level = c.size as usize - 1;
     let n = c.nodes[level];
     let at = c.places[level] as usize;
-    let w = pool::load(ws, t, n);
-    if w[0] < 39 {
-        pool::store(ws, t, n, node::leaf_insert(w, at, key, value));
+    if try_leaf_insert(ws, t, n, at, key, value) {
         return;
     }
-    let split = node::leaf_split(w, at, key, value);
+    let split = node::leaf_split(pool::load(ws, t, n), at, key, value);
     let left = split.left;
     let right = split.right;
     let rhs = cut(ws, t, n, left, right);
     split_and_insert(ws, t, c, level, split.key, rhs);
 }
 
-// Where `key` stands on the path its value is replaced, and the earlier one is told.
-fn replace(ws: &mut [u32], t: usize, c: Cursor, key: u32, value: u32) -> Reply
-    requires { ⌜ (1 ≤ c .size) × Lands (now ws) t (c .tree) (c .nodes) (c .places) (c .size - 1) ⌝ }
-    ensures { λ r. ⌜ ((s : Scene) (p : ℕ) → Land s p (now (ws .entry)) t (c .tree) (c .nodes) (c .places) (c .size - 1) → Replaces s p key value (now (ws .entry)) (now (ws .exit)) r) ⌝ }
+// Where `key` stands at place `at` of leaf n its value is replaced, and the earlier one is told.
+fn replace(ws: &mut [u32], t: usize, n: u32, at: usize, key: u32, value: u32) -> Reply
+    requires { ⌜ LeafPlace (now ws) t n at ⌝ }
+    ensures { λ r. ⌜ Replaces t n at key value (now (ws .entry)) (now (ws .exit)) r ⌝ }
 {
-    let level = c.size as usize - 1;
-    let n = c.nodes[level];
-    let at = c.places[level] as usize;
-    let mut w = pool::load(ws, t, n);
-    if node::entries(w) <= at {
+    let b = t + 16 * (n as usize) - 14;
+    if ws[b] as usize <= at + 32 {
         return Reply::Nothing;
     }
-    if node::leaf_key(w, at) != key {
+    if ws[b + 1 + at] != key {
         return Reply::Nothing;
     }
-    let earlier = node::leaf_value(w, at);
-    w[8 + at] = value;
-    pool::store(ws, t, n, w);
+    let earlier = ws[b + 8 + at];
+    ws[b + 8 + at] = value;
     Reply::Value(earlier)
 }
 
@@ -155,19 +166,7 @@ fn put_first(ws: &mut [u32], t: usize, tree: u32, key: u32, value: u32) -> Reply
     Reply::Nothing
 }
 
-// A put where the path of `key` stands.
-fn put_at(ws: &mut [u32], t: usize, c: Cursor, key: u32, value: u32) -> Reply
-    requires { ⌜ Found (now ws) t key c ⌝ }
-    ensures { λ r. ⌜ Puts (c .tree) key value (now (ws .entry)) (now (ws .exit)) r ⌝ }
-{
-    let found = replace(ws, t, c, key, value);
-    if let Reply::Value(_) = found {
-        return found;
-    }
-    add(ws, t, c, key, value)
-}
-
-// Puts `key` with `value` into a tree of a sound pool.
+// Puts `key` with `value` into a tree of a sound pool; a cursor is made only where the leaf is full.
 pub fn put(ws: &mut [u32], t: usize, tree: u32, key: u32, value: u32) -> Reply
     requires { ⌜ Ready (now ws) t tree ⌝ }
     ensures { λ r. ⌜ Puts tree key value (now (ws .entry)) (now (ws .exit)) r ⌝ }
@@ -175,6 +174,14 @@ pub fn put(ws: &mut [u32], t: usize, tree: u32, key: u32, value: u32) -> Reply
     if pool::root(ws, tree) == 0 {
         return put_first(ws, t, tree, key, value);
     }
+    let foot = path::find_leaf(ws, t, tree, key);
+    let found = replace(ws, t, foot.node, foot.place, key, value);
+    if let Reply::Value(_) = found {
+        return found;
+    }
+    if try_leaf_insert(ws, t, foot.node, foot.place, key, value) {
+        return Reply::Nothing;
+    }
     let c = path::find(ws, t, tree, key);
-    put_at(ws, t, c, key, value)
+    add(ws, t, c, key, value)
 }

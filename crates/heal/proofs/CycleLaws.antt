@@ -1,5 +1,5 @@
 -- PROOFS. The cycle of three: each call finds what it asks, and each return is a step of its definition
-use mathlib.Core.Path.{_≡_, refl, sym, _∙_, subst}
+use mathlib.Core.Path.{_≡_, refl, sym, ap, _∙_, subst}
 use mathlib.Core.List.{List, [], _∷_, _++_}
 use mathlib.Core.Bool.{Bool, true, false, _&&_}
 use mathlib.Core.Option.{Option, some}
@@ -8,32 +8,34 @@ use native.Mathlib.Omega.{arith}
 use lib.ListN.{length, getD}
 use lib.Dec.{ltb, leb, eqb}
 use borrow.Author.Tests.{ltb-true, ltb-false, leb-true, eq-eqb, ne-eqb}
-use Rattle.forest.specs.Lists.{once, count, parent}
+use Rattle.forest.specs.Lists.{count, parent}
 use Rattle.forest.specs.Pairs.{Item}
 use Rattle.forest.specs.Rows.{nums, sizes}
 use Rattle.forest.specs.Trees.{numbers}
 use Rattle.forest.specs.declared.Cursor.{Cursor}
-use Rattle.forest.proofs.ListLaws.{is, isnt, test, total-append}
+use Rattle.forest.proofs.ListLaws.{is, isnt, test}
 use Rattle.pool.specs.Stores.{Store, put, freedWords, noWords, Freeable}
 use Rattle.node.specs.Nodes.{statusOf}
 use Rattle.node.specs.declared.Removed.{Removed}
 use Rattle.node.specs.declared.Removed.the-variants.{Healthy, Rightmost, Underflow, Empty}
-use Rattle.crit.specs.States.{State, rightSibling, nextNode, settled, stored}
+use Rattle.crit.specs.States.{State, rightSibling, nextNode, throughRight, stored}
 use Rattle.crit.specs.Paths.{numAt}
-use Rattle.crit.specs.Asks.{Mem, moved, Spelt, Way, Leaves, Finds, Settles}
+use Rattle.crit.specs.Asks.{Mem, moved, Spelt, Way, Leaves, Finds, nearOf, Passes}
 use Rattle.crit.specs.declared.Near.{Near}
+use Rattle.crit.specs.declared.Near.the-variants.{Right, Nothing}
 use Rattle.heal.specs.Steps.{innerOps, healLevel, underWith, emptyNode, emptyFrom, parentCut, freeNode}
 use Rattle.heal.specs.Wounds.{Emptied, Wounded, alive, dead, cutRow}
-use Rattle.heal.specs.Cycle.{Kind, innerKind, emptied, left, standing, fits, gathered, stayed, healed, under, AskEmpty, AskHeal, Joined, Cuts, Mends}
+use Rattle.heal.specs.Cycle.{Kind, innerKind, emptied, left, standing, fits, gathered, stayed, healed, under, AskEmpty, AskHeal, AskJoin, Joined, Cuts, Mends}
 use Rattle.crit.proofs.HealMem
 use Rattle.crit.proofs.HealPath
 use Rattle.crit.proofs.SpeltLaws.{same-count}
-use Rattle.crit.proofs.RightLaws.{near-some, near-none}
 use Rattle.crit.proofs.NextLaws.{spelt-off}
 use Rattle.heal.proofs.HealUp.{Lawful}
 use Rattle.heal.proofs.HealReady.{ready-cut, ready-none, ready-merge, par-in, len-C, pathC, once-row}
 use Rattle.heal.proofs.InnerOps.{inner-law}
-use Rattle.heal.proofs.FreeLaws.{upto-one, spelt-freeable, spelt-freed, same-free, room, within-named}
+use Rattle.heal.proofs.FreeLaws.{spelt-freeable, spelt-freed, same-free, room, within-named}
+use Rattle.forest.proofs.WordLaws.{count-append}
+use Rattle.forest.proofs.CountLaws.{small}
 
 clash : _≡_ {A = ℕ} 0 1 → ⊥
 clash z = omega arith
@@ -124,7 +126,7 @@ module _ (k : Kind) where
         names : (x : ℕ) → 1 ≤ count x (numbers (a .ready .rows)) → (1 ≤ x) × (x ≤ a .mem .count)
         names x h =
             within-named (a .mem .count) (nums (a .ready .row) ++ numbers (a .ready .rows)) (a .mem .s .free) (a .ready .within) x
-            (omega (arith, total-append (λ z. once (eqb x z)) (nums (a .ready .row)) (numbers (a .ready .rows))))
+            (omega (arith, count-append x (nums (a .ready .row)) (numbers (a .ready .rows))))
 
         ups : HealMem.HoldsUp st′ (a .ready .rows)
         ups =
@@ -151,42 +153,48 @@ module _ (k : Kind) where
         (λ z h. absurd (clash (cc (a .says)))) (λ z h. absurd (clash (cc (a .says)))) (λ z y h. y) (λ z y h. absurd (clash (cc (a .says))))
 
   -- underflowed_node
-  module _ {ws : List ℕ} {t : ℕ} {c : Cursor} {level : ℕ} {near : Near} where
-    pub under-none : {r : Cursor} → Finds ws t c level near → near .there ≡ false → Leaves (λ s. stayed k s level) ws ws t c r → Leaves (under k level) ws ws t c r
+  module _ {ws : List ℕ} {t : ℕ} {c : Cursor} {level : ℕ} {near : Near} (f : Finds ws t c level near) where
+    pub under-none : {r : Cursor} → near ≡ Nothing → Leaves (λ s. stayed k s level) ws ws t c r → Leaves (under k level) ws ws t c r
     unfolding under
-    under-none {r} f e g = record {
+    under-none {r} e g = record {
       run = λ m sp.
-          subst (λ (x : Option Item). Spelt ws t r (moved m (underWith (k .ops) (k .cap) x (emptyNode innerOps level) level (m .s)))) (sym (near-none near e) ∙ f .run m sp) (g .run m sp);
+          subst (λ (x : Option Item). Spelt ws t r (moved m (underWith (k .ops) (k .cap) x (emptyNode innerOps level) level (m .s)))) (sym (ap nearOf e) ∙ f .run m sp) (g .run m sp);
     }
 
-    pub under-share : {vs : List ℕ} {all : Bool} → Finds ws t c level near → near .there ≡ true → Joined k ws vs t c level near all → all ≡ false → Leaves (under k level) ws vs t c c
-    unfolding under
-    under-share {vs} f e j q = record {
-      run = λ m sp.
-          let ft : fits k (m .s) level (near .key, near .node) ≡ false = sym (j .all-is m (near .key, near .node) sp (near-some near e)) ∙ q in
-          subst (λ (x : Option Item). Spelt vs t c (moved m (underWith (k .ops) (k .cap) x (emptyNode innerOps level) level (m .s)))) (sym (near-some near e) ∙ f .run m sp)
-          (simp ft (j .share-some m (near .key, near .node) sp (near-some near e) q));
-    }
+    module _ {key node : ℕ} (e : near ≡ Right key node) where
+      right : (m : Mem) → Spelt ws t c m → rightSibling (m .s .st) (m .s .ns) (m .s .ps) level ≡ some (key, node)
+      right m sp = sym (f .run m sp) ∙ ap nearOf e
 
-    pub under-merge : {vs xs : List ℕ} {r : Cursor} {all : Bool} → Finds ws t c level near → near .there ≡ true → Joined k ws vs t c level near all → all ≡ true → Leaves (emptied level) vs xs t c r → Leaves (under k level) ws xs t c r
-    unfolding under emptied
-    under-merge {vs} {xs} {r} f e j q g = record {
-      run = λ m sp.
-          let ft : fits k (m .s) level (near .key, near .node) ≡ true = sym (j .all-is m (near .key, near .node) sp (near-some near e)) ∙ q in
-          subst (λ (x : Option Item). Spelt xs t r (moved m (underWith (k .ops) (k .cap) x (emptyNode innerOps level) level (m .s)))) (sym (near-some near e) ∙ f .run m sp)
-          (simp ft (g .run (moved m (gathered k (m .s) level (near .key, near .node))) (j .gather-all m (near .key, near .node) sp (near-some near e) q)));
-    }
+      pub ask-join : AskHeal k ws t c Underflow level → AskJoin k ws t c level key node
+      ask-join a = record { heal = a; finds = subst (Finds ws t c level) e f }
 
-    pub ask-merge : (law : Lawful (k .ops) (k .words) (k .cap) (k .low)) {vs : List ℕ} {all : Bool} → AskHeal k ws t c Underflow level → Finds ws t c level near → near .there ≡ true → Joined k ws vs t c level near all → all ≡ true → AskEmpty vs t c level
-    ask-merge law a f e j q =
-        let right : rightSibling (a .mem .s .st) (a .mem .s .ns) (a .mem .s .ps) level ≡ some (near .key, near .node) = sym (f .run (a .mem) (a .spelt)) ∙ near-some near e in
-        let ft : fits k (a .mem .s) level (near .key, near .node) ≡ true = sym (j .all-is (a .mem) (near .key, near .node) (a .spelt) (near-some near e)) ∙ q in
-        record {
-          deep = a .deep;
-          mem = moved (a .mem) (gathered k (a .mem .s) level (near .key, near .node));
-          spelt = j .gather-all (a .mem) (near .key, near .node) (a .spelt) (near-some near e) q;
-          ready = ready-merge law (a .mem .count) level (a .mem .s) (a .ready) (near .key, near .node) (some-left law a refl) right (leb-true _ _ ft);
-        }
+      pub under-share : {vs : List ℕ} {all : Bool} → Joined k ws vs t c level all → all ≡ false → Leaves (under k level) ws vs t c c
+      unfolding under
+      under-share {vs} j q = record {
+        run = λ m sp.
+            let ft : fits k (m .s) level (key, node) ≡ false = sym (j .all-is m (key, node) sp (right m sp)) ∙ q in
+            subst (λ (x : Option Item). Spelt vs t c (moved m (underWith (k .ops) (k .cap) x (emptyNode innerOps level) level (m .s)))) (sym (right m sp))
+            (simp ft (j .share-some m (key, node) sp (right m sp) q));
+      }
+
+      pub under-merge : {vs xs : List ℕ} {r : Cursor} {all : Bool} → Joined k ws vs t c level all → all ≡ true → Leaves (emptied level) vs xs t c r → Leaves (under k level) ws xs t c r
+      unfolding under emptied
+      under-merge {vs} {xs} {r} j q g = record {
+        run = λ m sp.
+            let ft : fits k (m .s) level (key, node) ≡ true = sym (j .all-is m (key, node) sp (right m sp)) ∙ q in
+            subst (λ (x : Option Item). Spelt xs t r (moved m (underWith (k .ops) (k .cap) x (emptyNode innerOps level) level (m .s)))) (sym (right m sp))
+            (simp ft (g .run (moved m (gathered k (m .s) level (key, node))) (j .gather-all m (key, node) sp (right m sp) q)));
+      }
+
+      pub ask-merge : (law : Lawful (k .ops) (k .words) (k .cap) (k .low)) {vs : List ℕ} {all : Bool} → AskHeal k ws t c Underflow level → Joined k ws vs t c level all → all ≡ true → AskEmpty vs t c level
+      ask-merge law a j q =
+          let ft : fits k (a .mem .s) level (key, node) ≡ true = sym (j .all-is (a .mem) (key, node) (a .spelt) (right (a .mem) (a .spelt))) ∙ q in
+          record {
+            deep = a .deep;
+            mem = moved (a .mem) (gathered k (a .mem .s) level (key, node));
+            spelt = j .gather-all (a .mem) (key, node) (a .spelt) (right (a .mem) (a .spelt)) q;
+            ready = ready-merge law (a .mem .count) level (a .mem .s) (a .ready) (key, node) (some-left law a refl) (right (a .mem) (a .spelt)) (leb-true _ _ ft);
+          }
 
 -- empty_node: the node is freed
 module _ {ws : List ℕ} {t : ℕ} {c : Cursor} {level : ℕ} (a : AskEmpty ws t c level) where
@@ -230,7 +238,7 @@ module _ {ws : List ℕ} {t : ℕ} {c : Cursor} {level : ℕ} (a : AskEmpty ws t
     up = rw gone-is (HealMem.up-apart (a .mem .s .st) (put (a .mem .s .st) (numAt (a .ready .row) (a .ready .at)) noWords) (numAt (a .ready .row) (a .ready .at) ∷ []) (a .ready .rows)
         (HealMem.put-keeps (a .mem .s .st) (numAt (a .ready .row) (a .ready .at)) noWords (numAt (a .ready .row) (a .ready .at) ∷ [])
         (simp (eq-eqb (numAt (a .ready .row) (a .ready .at)) (numAt (a .ready .row) (a .ready .at)) refl) (omega arith)))
-        (λ x. omega (arith, a .ready .within x, upto-one (leb 1 x && leb x (a .mem .count)))) (a .ready .up));
+        (λ x. omega (arith, a .ready .within x, small (leb 1 x && leb x (a .mem .count)))) (a .ready .up));
     path = a .ready .path;
   }
 
@@ -257,12 +265,12 @@ ask-cut {ws} {vs} {us} {t} {c} {level} {status} a h f k = by level (a .deep) h (
 
 -- empty_node's end
 pub empties : {ws vs us xs : List ℕ} {t : ℕ} {c d r : Cursor} {level : ℕ} {status : Removed} {near : Near} → level < 16 → 0 < level → Leaves (λ s. freeNode s (getD (c .nodes) level 0)) ws vs t c c → Finds vs t c level near →
-    Cuts innerKind vs us t c (level - 1) status → Mends innerKind us xs t c d status (level - 1) → Settles d r level near → Leaves (emptied level) ws xs t c r
+    Cuts innerKind vs us t c (level - 1) status → Mends innerKind us xs t c d status (level - 1) → Passes d r level near → Leaves (emptied level) ws xs t c r
 unfolding emptied healed
 empties {ws} {vs} {us} {xs} {t} {c} {d} {r} {level} {status} {near} b h f g k e st = record { run = empties-run level b h f g k e st }
   where
     empties-run : (level : ℕ) → level < 16 → 0 < level → Leaves (λ s. freeNode s (getD (c .nodes) level 0)) ws vs t c c → Finds vs t c level near → Cuts innerKind vs us t c (level - 1) status → Mends innerKind us xs t c d status (level - 1) →
-        Settles d r level near → (m : Mem) → Spelt ws t c m → Spelt xs t r (moved m (emptied level (m .s)))
+        Passes d r level near → (m : Mem) → Spelt ws t c m → Spelt xs t r (moved m (emptied level (m .s)))
     empties-run zero b h f g k e st m sp = absurd (omega arith)
     empties-run (suc l) b h f g k e st m sp =
         let z : suc l - 1 ≡ l = omega arith in
@@ -274,7 +282,7 @@ empties {ws} {vs} {us} {xs} {t} {c} {d} {r} {level} {status} {near} b h f g k e 
         let sp3 = e′ .run (moved m (parentCut innerOps (freeNode (m .s) (getD (c .nodes) (suc l) 0)) l)) (k′ .says _ sp2) sp2 in
         let sp4 = st .run xs t _ sp3 in
         let sp5 : Spelt xs t r (moved m (emptyFrom innerOps (emptyNode innerOps l) l (getD (c .nodes) (suc l) 0) (m .s))) =
-        subst (λ (x : Option Item). Spelt xs t r (moved m (settled x (suc l) (healLevel innerOps 8 (emptyNode innerOps l) l (parentCut innerOps (freeNode (m .s) (getD (c .nodes) (suc l) 0)) l))))) nr sp4 in
+        subst (λ (x : Option Item). Spelt xs t r (moved m (throughRight x (suc l) (healLevel innerOps 8 (emptyNode innerOps l) l (parentCut innerOps (freeNode (m .s) (getD (c .nodes) (suc l) 0)) l))))) nr sp4 in
         subst (λ (x : ℕ). Spelt xs t r (moved m (emptyFrom innerOps (emptyNode innerOps l) l x (m .s)))) (sp .nodes (suc l) b) sp5
 
 pub empties-root : {ws vs : List ℕ} {t : ℕ} {c r : Cursor} {level : ℕ} → level ≤ 0 → Leaves (λ s. freeNode s (getD (c .nodes) level 0)) ws vs t c c → r .nodes ≡ c .nodes → r .places ≡ c .places → r .tree ≡ c .tree → r .size ≡ 0 →

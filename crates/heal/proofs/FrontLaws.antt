@@ -19,7 +19,7 @@ use Rattle.crit.specs.Asks.{Mem, moved, Spelt, Leaves}
 use Rattle.heal.specs.Steps.{leafOps, innerOps, leafFront, fronted, parentCut, taken}
 use Rattle.heal.specs.Wounds.{Wounded}
 use Rattle.heal.specs.Cycle.{Kind, leafKind, left, standing, healed, AskFront, AskHeal, Cuts, Mends, Stood}
-use Rattle.crit.proofs.SpeltLaws.{spelt-block, spelt-placed, same-count}
+use Rattle.crit.proofs.SpeltLaws.{spelt-placed, spelt-level, same-count}
 use Rattle.heal.proofs.HealTree.{front-wounded, front-words, front-path}
 use Rattle.heal.proofs.HealReady.{within-once}
 use Rattle.heal.proofs.InnerOps.{inner-law}
@@ -32,7 +32,7 @@ module _ {ws : List ℕ} {t : ℕ} {c : Cursor} {level : ℕ} (a : AskFront ws t
   front-placed = spelt-placed (a .way .spelt) (getD (c .nodes) level 0) (a .some) (a .few)
 
   front-block : (m : Mem) → Spelt ws t c m → block ws t (getD (c .nodes) level 0) ≡ m .s .st (m .s .ns level)
-  front-block m sp = spelt-block sp (getD (c .nodes) level 0) (a .some) (rw (← (same-count (a .way .spelt) sp)) (a .few)) ∙ ap (m .s .st) (sp .nodes level (a .way .deep))
+  front-block m sp = spelt-level sp level (a .way .deep) (a .some) (rw (← (same-count (a .way .spelt) sp)) (a .few))
 
   module _ (w : List ℕ) (e : w ≡ block ws t (getD (c .nodes) level 0)) where
     pub fronts-none : getD w 0 0 ≤ 32 → Leaves (λ s. fronted leafOps 7 innerOps leafFront s level) ws ws t c c
@@ -64,7 +64,7 @@ module _ {ws : List ℕ} {t : ℕ} {c : Cursor} {level : ℕ} (a : AskFront ws t
 standing-same : (k : Kind) {ws : List ℕ} {t : ℕ} {c : Cursor} {m m′ : Mem} (level : ℕ) → Spelt ws t c m → Spelt ws t c m′ → level < 16 → 1 ≤ getD (c .nodes) level 0 → getD (c .nodes) level 0 ≤ m .count → standing k (m .s) level ≡ standing k (m′ .s) level
 standing-same k {ws} {t} {c} {m} {m′} level sp sp′ d lo hi =
     let a : m .s .st (m .s .ns level) ≡ m′ .s .st (m′ .s .ns level) =
-    ap (m .s .st) (sym (sp .nodes level d)) ∙ sym (spelt-block sp (getD (c .nodes) level 0) lo hi) ∙ spelt-block sp′ (getD (c .nodes) level 0) lo (rw (← (same-count sp sp′)) hi) ∙ ap (m′ .s .st) (sp′ .nodes level d) in
+    sym (spelt-level sp level d lo hi) ∙ spelt-level sp′ level d lo (rw (← (same-count sp sp′)) hi) in
     ap (λ (p : ℕ). statusOf (k .cap) p (left k (m .s) level)) (sym (sp .places level d) ∙ sp′ .places level d) ∙ ap (λ (w : List ℕ). statusOf (k .cap) (m′ .s .ps level) (k .ops .entries w)) a
 
 -- remove_pair

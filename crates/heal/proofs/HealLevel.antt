@@ -1,19 +1,19 @@
--- PROOFS. heal_level: the cases, by what is left in the node and by its right neighbour
+-- PROOFS. heal_level with an item left: the cases, by what is left in the node and by its right neighbour
 use mathlib.Core.Path.{_≡_, refl, sym, ap, _∙_}
-use mathlib.Core.List.{List, [], _∷_, _++_}
+use mathlib.Core.List.{List, _∷_, _++_}
 use mathlib.Core.Bool.{true, false}
-use mathlib.Core.Option.{some}
+use mathlib.Core.Option.{none, some}
 use Prim.Native.Nat.{ℕ, suc, _+_, _-_, _*_, _≤_, _<_}
 use native.Mathlib.Omega.{arith}
 use lib.ListN.{length, take, drop, getD, length-append, length-map, length-take}
 use lib.Dec.{ltb, eqb, leb}
-use borrow.Author.Tests.{lt-ltb, le-ltb, ltb-true, ltb-false, eqb-true, eqb-false, eq-eqb, ne-eqb, lt-leb, leb-true, leb-false}
-use Rattle.forest.specs.Lists.{removeAt, sum, once, count, pad, parent, offset}
+use borrow.Author.Tests.{lt-ltb, le-ltb, ltb-true, ltb-false, eqb-true, eqb-false, eq-eqb, ne-eqb, leb-true, leb-false}
+use Rattle.forest.specs.Lists.{removeAt, sum, once, count, parent, offset}
 use Rattle.forest.specs.Pairs.{Item}
-use Rattle.forest.specs.Rows.{Row, size, front, nums, sizes, joined, line, itemsAt, Fill, dropRow}
+use Rattle.forest.specs.Rows.{Row, size, front, nums, sizes, line, itemsAt, Fill, dropRow}
 use Rattle.forest.specs.Trees.{numbers, lost}
-use Rattle.forest.proofs.ListLaws.{is, isnt, test, total-append, parent-lt, offset-lt, parent-start, length-removeAt}
-use Rattle.forest.proofs.RowLaws.{sum-sizes, length-items, fill-at, dropRow-joined}
+use Rattle.forest.proofs.ListLaws.{is, isnt, test, length-removeAt}
+use Rattle.forest.proofs.RowLaws.{length-items, fill-at, parent-there, offset-there}
 use Rattle.crit.specs.States.{State, stored, lives, nextNode}
 use Rattle.heal.specs.Steps.{Ops, healLevel}
 use Rattle.crit.proofs.HealRows
@@ -22,12 +22,12 @@ use Rattle.crit.proofs.HealMem
 use Rattle.crit.proofs.HealPath
 use Rattle.crit.proofs.HealNext
 use Rattle.heal.proofs.HealMend
+use Rattle.heal.proofs.HealCut.{cut-length, cut-path, cut-left, cut-size, cut-sum, drop-sum}
 use Rattle.heal.proofs.HealStep
-use Rattle.heal.proofs.HealShape.{Lawful, here, past, Exit, Heals, Mended, sizes-before, sizes-before-next, sizes-before-remove, merged-size, items-next, some-upd, not-last, front-take, dropUp-shape, freedUp-shape, least-of, two-nodes, remove-upd}
-use Rattle.forest.proofs.Descent.{front-append}
-use Rattle.forest.proofs.Sentences.{fill-inside}
+use Rattle.heal.proofs.HealShape.{Lawful, Where, here, past, Exit, Heals, Mended, sizes-before, sizes-before-next, sizes-before-remove, merged-size, items-next, some-upd, not-last, dropUp-shape, freedUp-shape, least-of}
+use Rattle.forest.proofs.Descent.{front-append, front-take}
+use Rattle.forest.proofs.WordLaws.{count-append}
 
--- The cases of heal_level
 module _ {enc : List Item → List ℕ} {cap low : ℕ} {o : Ops} (law : Lawful o enc cap low) (up : State → State) (i : ℕ) (S : Row) (Ss : List Row)
     (ih : Heals up (length Ss))
     (s : State) (b : i < sum (sizes S)) (fill : Fill low cap (sizes S))
@@ -37,110 +37,85 @@ module _ {enc : List Item → List ℕ} {cap low : ℕ} {o : Ops} (law : Lawful 
   C = HealStep.cutRow i S
 
   par-in : parent (sizes S) i < length S
-  par-in = rw (length-map S size) at (parent-lt (sizes S) i b)
+  par-in = parent-there S i b
 
   off-in : offset (sizes S) i < length (itemsAt S (parent (sizes S) i))
-  off-in = rw (length-items S (parent (sizes S) i)) (offset-lt (sizes S) i b)
+  off-in = offset-there S i b
 
   abbrev pub left-over : ℕ
   left-over = length (removeAt (offset (sizes S) i) (itemsAt S (parent (sizes S) i)))
 
-  over-is : suc left-over ≡ length (itemsAt S (parent (sizes S) i))
-  over-is = length-removeAt (offset (sizes S) i) (itemsAt S (parent (sizes S) i)) off-in
-
-  over-at : getD (sizes C) (parent (sizes S) i) 0 ≡ left-over
-  over-at = sym (length-items C (parent (sizes S) i)) ∙ ap length (HealRows.upd-same (parent (sizes S) i) (removeAt (offset (sizes S) i)) S par-in)
-
-  cut-sum : suc (sum (sizes C)) ≡ sum (sizes S)
-  cut-sum = omega (arith, sum-sizes C, sum-sizes S, ap length (HealRows.cut-joined S i b), length-removeAt i (joined S) (omega (arith, sum-sizes S)))
-
   drop-is : dropRow cap (parent (sizes S) i) (offset (sizes S) i) S ≡ HealMend.mend cap (parent (sizes S) i) C
   drop-is = HealMend.drop-mend cap (parent (sizes S) i) (offset (sizes S) i) S
-
-  sum-drop : suc (sum (sizes (dropRow cap (parent (sizes S) i) (offset (sizes S) i) S))) ≡ sum (sizes S)
-  sum-drop =
-      let j : joined (dropRow cap (parent (sizes S) i) (offset (sizes S) i) S) ≡ removeAt i (joined S) =
-      rw (dropRow-joined cap (parent (sizes S) i) (offset (sizes S) i) S par-in (offset-lt (sizes S) i b), parent-start (sizes S) i b) in
-      omega (arith, sum-sizes (dropRow cap (parent (sizes S) i) (offset (sizes S) i) S), sum-sizes S, ap length j, length-removeAt i (joined S) (omega (arith, sum-sizes S)))
 
   apart : HealMem.Apart (nums S) (numbers Ss)
   apart = HealMem.once-append (nums S) (numbers Ss) once
 
   pathC : HealPath.Path C (parent (sizes S) i) Ss (s .ns) (s .ps)
-  pathC = HealNext.path-shape S C (parent (sizes S) i) (s .ns) (s .ps) (sym (HealRows.upd-numAt (parent (sizes S) i) (parent (sizes S) i) (removeAt (offset (sizes S) i)) S)) (HealStack.same-refl Ss) path
+  pathC = cut-path i S Ss (s .ns) (s .ps) path
 
   -- an item is left
   module _ (some-left : 1 ≤ left-over) (stacked : HealStack.Stacked C Ss) (row : HealMem.Holds enc (s .st) C) where
+    -- the words stay as they are; the cursor stands, or is off the end
+    still : (t : State) → t .st ≡ s .st → t .free ≡ s .free → ((l : ℕ) → length Ss < l → t .ns l ≡ s .ns l) → ((l : ℕ) → length Ss < l → t .ps l ≡ s .ps l) →
+        Where (sum (sizes C)) i ((t .ps (length Ss) ≡ offset (sizes C) i) × HealPath.Path C (parent (sizes C) i) Ss (t .ns) (t .ps)) (s .live) (t .live) → Mended enc C false i S Ss s t
+    still t a f n p w = record {
+      rows = Ss;
+      shape = HealStack.same-refl Ss;
+      stacked = stacked;
+      row = rw a row;
+      up = rw a hu;
+      keeps = λ x c. ap (λ (st : HealMem.Store). st x) a;
+      zeros = λ x c d. absurd (let z = rw (HealRows.upd-nums (parent (sizes S) i) (removeAt (offset (sizes S) i)) S) at d in omega arith);
+      free = f;
+      deeper = n;
+      places = p;
+      stands = w;
+    }
+
     -- nothing more to do
     stays : offset (sizes S) i < left-over → Mended enc C false i S Ss s s
     stays h =
-        let q = HealStep.spot (sizes S) (sizes C) i (sizes-before (parent (sizes S) i) (removeAt (offset (sizes S) i)) S) (rw over-at h) in
-        let n = HealStep.inside (sizes S) i b (omega (arith, over-is, length-items S (parent (sizes S) i))) in
-        record {
-          rows = Ss;
-          shape = HealStack.same-refl Ss;
-          stacked = stacked;
-          row = row;
-          up = hu;
-          keeps = λ x c. refl;
-          zeros = λ x c d. absurd (let z = rw (HealRows.upd-nums (parent (sizes S) i) (removeAt (offset (sizes S) i)) S) at d in omega arith);
-          free = refl;
-          deeper = λ l d. refl;
-          places = λ l d. refl;
-          stands = here (omega (arith, cut-sum)) (place ∙ sym (q .1), rw (q .0) pathC) refl;
-        }
+        let q = HealStep.spot (sizes S) (sizes C) i (sizes-before (parent (sizes S) i) (removeAt (offset (sizes S) i)) S) (rw (cut-size i S b) h) in
+        let n = HealStep.inside (sizes S) i b (omega (arith, cut-left i S b, length-items S (parent (sizes S) i))) in
+        still s refl refl (λ l d. refl) (λ l d. refl) (here (omega (arith, cut-sum i S b)) (place ∙ sym (q .1), rw (q .0) pathC) refl)
 
     -- off the end
     ends-here : offset (sizes S) i ≡ left-over → suc (parent (sizes S) i) ≡ length S → Mended enc C false i S Ss s (lives s false)
     ends-here h e =
         let z = HealStep.ends (sizes S) i b (e ∙ sym (length-map S size)) in
-        record {
-          rows = Ss;
-          shape = HealStack.same-refl Ss;
-          stacked = stacked;
-          row = row;
-          up = hu;
-          keeps = λ x c. refl;
-          zeros = λ x c d. absurd (let z = rw (HealRows.upd-nums (parent (sizes S) i) (removeAt (offset (sizes S) i)) S) at d in omega arith);
-          free = refl;
-          deeper = λ l d. refl;
-          places = λ l d. refl;
-          stands = past (omega (arith, cut-sum, over-is, length-items S (parent (sizes S) i))) refl;
-        }
+        still (lives s false) refl refl (λ l d. refl) (λ l d. refl) (past (omega (arith, cut-sum i S b, cut-left i S b, length-items S (parent (sizes S) i))) refl)
 
     big : HealStack.Some (sizes S)
     big = HealStack.fill-some low cap (sizes S) (omega (arith, law .least-two)) fill
 
     length-C : length C ≡ length S
-    length-C = HealRows.upd-length (parent (sizes S) i) (removeAt (offset (sizes S) i)) S
+    length-C = cut-length i S
 
     -- the last item went, and there is a next node
     moves : offset (sizes S) i ≡ left-over → suc (parent (sizes S) i) < length S → Mended enc C false i S Ss s (nextNode (length Ss) s)
     moves h e =
         let n2 : suc (parent (sizes S) i) < length C = omega (arith, length-C) in
-        let r = HealPath.right-is (s .st) (s .ns) (s .ps) (0, 0) C (parent (sizes S) i) Ss n2 stacked hu pathC in
-        let q = HealStep.spot-next (sizes S) (sizes C) i (sizes-before (parent (sizes S) i) (removeAt (offset (sizes S) i)) S) (over-at ∙ sym h)
+        let r = HealPath.right-is (s .st) (s .ns) (s .ps) C (parent (sizes S) i) Ss n2 stacked hu pathC in
+        let q = HealStep.spot-next (sizes S) (sizes C) i (sizes-before (parent (sizes S) i) (removeAt (offset (sizes S) i)) S) (cut-size i S b ∙ sym h)
         (some-upd (parent (sizes S) i) (removeAt (offset (sizes S) i)) S big some-left) (rw (length-map C size) n2) in
         let n = not-last (sizes S) i big b (rw (length-map S size) e) in
         let np = HealNext.next-path (s .st) (s .ns) (s .ps) C (parent (sizes S) i) Ss n2 stacked hu pathC in
-        rw r (record {
-          rows = Ss;
-          shape = HealStack.same-refl Ss;
-          stacked = stacked;
-          row = row;
-          up = hu;
-          keeps = λ x c. refl;
-          zeros = λ x c d. absurd (let z = rw (HealRows.upd-nums (parent (sizes S) i) (removeAt (offset (sizes S) i)) S) at d in omega arith);
-          free = refl;
-          deeper = λ l d. (HealNext.next-deeper (s .st) (s .ns) (s .ps) (length Ss) l) .0 d;
-          places = λ l d. simp (ne-eqb l (length Ss) (omega arith)) ((HealNext.next-deeper (s .st) (s .ns) (s .ps) (length Ss) l) .1 (omega arith));
-          stands = here (omega (arith, cut-sum)) (
-            simp (eq-eqb (length Ss) (length Ss) refl) (sym (q .1)),
-            rw (q .0) (HealNext.path-deeper C (suc (parent (sizes S) i)) Ss ((HealNext.nextAt (s .st) (s .ns) (s .ps) (length Ss)) .0) ((HealNext.nextAt (s .st) (s .ns) (s .ps) (length Ss)) .1)
-                ((HealNext.nextAt (s .st) (s .ns) (s .ps) (length Ss)) .0) (HealNext.at ((HealNext.nextAt (s .st) (s .ns) (s .ps) (length Ss)) .1) (length Ss) 0)
-                (λ l d. refl) (λ l d. simp (ne-eqb l (length Ss) (omega arith))) np),
-          ) refl;
-        })
+        rw r (still _ refl refl (λ l d. (HealNext.next-deeper (s .st) (s .ns) (s .ps) (length Ss) l) .0 d)
+        (λ l d. simp (ne-eqb l (length Ss) (omega arith)) ((HealNext.next-deeper (s .st) (s .ns) (s .ps) (length Ss) l) .1 (omega arith)))
+        (here (omega (arith, cut-sum i S b)) (
+          simp (eq-eqb (length Ss) (length Ss) refl) (sym (q .1)),
+          rw (q .0) (HealNext.path-deeper C (suc (parent (sizes S) i)) Ss ((HealNext.nextAt (s .st) (s .ns) (s .ps) (length Ss)) .0) ((HealNext.nextAt (s .st) (s .ns) (s .ps) (length Ss)) .1)
+              ((HealNext.nextAt (s .st) (s .ns) (s .ps) (length Ss)) .0) (HealNext.at ((HealNext.nextAt (s .st) (s .ns) (s .ps) (length Ss)) .1) (length Ss) 0)
+              (λ l d. refl) (λ l d. simp (ne-eqb l (length Ss) (omega arith))) np),
+        ) refl))
+
+    -- no right neighbour
+    is-last : ltb (suc (parent (sizes S) i)) (length S) ≡ false → suc (parent (sizes S) i) ≡ length S
+    is-last f = let y = ltb-false (suc (parent (sizes S) i)) (length S) f in omega (arith, par-in)
+
+    right-none : suc (parent (sizes S) i) ≡ length S → HealPath.rightSibling (s .st) (s .ns) (s .ps) (length Ss) ≡ none
+    right-none e = HealPath.right-none (s .st) (s .ns) (s .ps) C (parent (sizes S) i) Ss (omega (arith, length-C)) stacked hu pathC
 
     -- the node and its right neighbour
     abbrev xs : List Item
@@ -167,7 +142,7 @@ module _ {enc : List Item → List ℕ} {cap low : ℕ} {o : Ops} (law : Lawful 
 
       right-some : HealPath.rightSibling (s .st) (s .ns) (s .ps) (length Ss) ≡ some (front ys, HealRows.numAt C (suc (parent (sizes S) i)))
       right-some =
-          HealPath.right-is (s .st) (s .ns) (s .ps) (0, 0) C (parent (sizes S) i) Ss nextC stacked hu pathC ∙
+          HealPath.right-is (s .st) (s .ns) (s .ps) C (parent (sizes S) i) Ss nextC stacked hu pathC ∙
           ap some (HealRows.line-at (0, 0) C (suc (parent (sizes S) i)) nextC)
 
       onceC : HealMem.Once (nums C ++ numbers Ss)
@@ -202,7 +177,7 @@ module _ {enc : List Item → List ℕ} {cap low : ℕ} {o : Ops} (law : Lawful 
           let keeps1 : HealMem.Keeps (s .st) st1 (nums C) = HealMem.put-keeps (s .st) (HealRows.numAt C (parent (sizes S) i)) (enc (take (HealMend.keep u) u)) (nums C) (HealMem.numAt-counts C (parent (sizes S) i) C-in) in
           let up1 : HealMem.HoldsUp st1 Ss = HealMem.up-apart (s .st) st1 (nums C) Ss keeps1 (HealMem.once-append (nums C) (numbers Ss) onceC) hu in
           let f1 : front (take (HealMend.keep u) u) ≡ front xs = front-take (HealMend.keep u) u (omega arith) ∙ front-append xs ys (omega (arith, xs-length)) in
-          let line1 : line C1 ≡ line C = HealStack.line-keep (parent (sizes S) i) (λ _. take (HealMend.keep u) u) C C-in f1 in
+          let line1 : line C1 ≡ line C = HealStack.line-same (parent (sizes S) i) (λ _. take (HealMend.keep u) u) C f1 in
           let stacked1 : HealStack.Stacked C1 Ss = HealStack.stacked-line C C1 Ss (HealStack.alike-same (sym line1)) stacked in
           let path1 : HealPath.Path C1 (parent (sizes S) i) Ss (s .ns) (s .ps) =
           HealNext.path-shape C C1 (parent (sizes S) i) (s .ns) (s .ps) (sym (HealRows.upd-numAt (parent (sizes S) i) (parent (sizes S) i) (λ _. take (HealMend.keep u) u) C)) (HealStack.same-refl Ss) pathC in
@@ -217,7 +192,7 @@ module _ {enc : List Item → List ℕ} {cap low : ℕ} {o : Ops} (law : Lawful 
           let size-M : getD (sizes M) (parent (sizes S) i) 0 ≡ HealMend.keep u =
           sym (length-items M (parent (sizes S) i)) ∙ ap length (items-next (parent (sizes S) i) g C1 ∙ HealRows.upd-same (parent (sizes S) i) (λ _. take (HealMend.keep u) u) C C-in) ∙
           length-take (HealMend.keep u) u ∙ least-of (HealMend.keep u) (length u) (omega arith) in
-          let q = HealStep.spot (sizes S) (sizes M) i before (omega (arith, over-is, off-in)) in
+          let q = HealStep.spot (sizes S) (sizes M) i before (omega (arith, cut-left i S b, off-in)) in
           record {
             rows = HealStack.setKey (suc (parent (sizes S) i)) k Ss;
             shape = HealStack.setKey-shape (suc (parent (sizes S) i)) k Ss;
@@ -225,7 +200,7 @@ module _ {enc : List Item → List ℕ} {cap low : ℕ} {o : Ops} (law : Lawful 
             row = HealStep.keyed-row enc C1 (parent (sizes S) i) Ss st1 (s .ns) (s .ps) stacked1 n1 once1 row1 up1 path1 w g refl k;
             up = HealStep.keyed-up enc C1 (parent (sizes S) i) Ss st1 (s .ns) (s .ps) stacked1 n1 once1 row1 up1 path1 w g refl k;
             keeps = λ x c.
-                let c2 : count x (nums S) + count x (numbers Ss) ≡ 0 = rw (total-append (λ z. Rattle.forest.specs.Lists.once (eqb x z)) (nums S) (numbers Ss)) at c in
+                let c2 : count x (nums S) + count x (numbers Ss) ≡ 0 = rw (count-append x (nums S) (numbers Ss)) at c in
                 let c3 : count x (nums C) ≡ 0 = rw (HealRows.upd-nums (parent (sizes S) i) (removeAt (offset (sizes S) i)) S) (omega arith) in
                 let c4 : count x (nums C1) ≡ 0 = rw (HealRows.upd-nums (parent (sizes S) i) (λ _. take (HealMend.keep u) u) C) c3 in
                 HealStep.keyed-keeps enc C1 (parent (sizes S) i) Ss st1 (s .ns) (s .ps) stacked1 n1 once1 row1 up1 path1 w g refl k x (omega arith) ∙
@@ -234,7 +209,7 @@ module _ {enc : List Item → List ℕ} {cap low : ℕ} {o : Ops} (law : Lawful 
             free = refl;
             deeper = λ l d. refl;
             places = λ l d. refl;
-            stands = here (rw (← is-M) (omega (arith, sum-drop, not-last (sizes S) i big b (rw (length-map S size) e)))) (
+            stands = here (rw (← is-M) (omega (arith, drop-sum i S b cap, not-last (sizes S) i big b (rw (length-map S size) e)))) (
               place ∙ sym (q .1),
               rw (q .0) (HealNext.path-shape C1 M (parent (sizes S) i) (s .ns) (s .ps) (sym (HealRows.upd-numAt (parent (sizes S) i) (suc (parent (sizes S) i)) g C1))
                   (HealStack.same-sym (HealStack.setKey-shape (suc (parent (sizes S) i)) k Ss)) path1),
@@ -269,7 +244,7 @@ module _ {enc : List Item → List ℕ} {cap low : ℕ} {o : Ops} (law : Lawful 
               sizes-before-remove (parent (sizes S) i) (HealRows.upd (suc (parent (sizes S) i)) f C) ∙ sizes-before-next (parent (sizes S) i) f C ∙ sizes-before (parent (sizes S) i) (removeAt (offset (sizes S) i)) S in
               let size-M : getD (sizes MR) (parent (sizes S) i) 0 ≡ left-over + length ys = merged-size (parent (sizes S) i) C nextC ∙ ap (_+ length ys) xs-length in
               let ys-some : 1 ≤ length ys = rw ys-length (HealStack.some-at (sizes S) (suc (parent (sizes S) i)) big (rw (length-map S size) e)) in
-              let q = HealStep.spot (sizes S) (sizes MR) i before (omega (arith, over-is, off-in)) in
+              let q = HealStep.spot (sizes S) (sizes MR) i before (omega (arith, cut-left i S b, off-in)) in
               let counts : (y : ℕ) → count y (HealRows.numAt (m .ghost) (parent (sizes S) i) ∷ numbers (m .rows)) + count y (nums MR) ≡ count y (nums S) + count y (numbers Ss) =
               λ y. rw (same-num, HealNext.shape-numbers (m .shape), HealMend.merge-nums (parent (sizes S) i) C, HealRows.upd-nums (parent (sizes S) i) (removeAt (offset (sizes S) i)) S, ← (HealRows.nums-removeAt (parent (sizes S) i) S))
               (omega (arith, HealMem.gone-count S (parent (sizes S) i) y par-in)) in
@@ -280,14 +255,14 @@ module _ {enc : List Item → List ℕ} {cap low : ℕ} {o : Ops} (law : Lawful 
                 row = HealMem.holds-apart enc st3 ((up (stored s st3)) .st) (HealRows.numAt (m .ghost) (parent (sizes S) i) ∷ numbers (m .rows)) MR (x .keeps) (λ y. omega (arith, counts y, apart y)) (m .row);
                 up = x .up;
                 keeps = λ y c.
-                    let c2 : count y (nums S) + count y (numbers Ss) ≡ 0 = rw (total-append (λ z. Rattle.forest.specs.Lists.once (eqb y z)) (nums S) (numbers Ss)) at c in
+                    let c2 : count y (nums S) + count y (numbers Ss) ≡ 0 = rw (count-append y (nums S) (numbers Ss)) at c in
                     x .keeps y (omega (arith, counts y)) ∙ m .keeps y (rw (HealRows.upd-nums (parent (sizes S) i) (removeAt (offset (sizes S) i)) S) c);
                 zeros = λ y c d. x .zeros y (omega (arith, counts y)) (omega arith);
                 free = rw (← same-num, ← (freedUp-shape (parent (sizes S) i) (m .shape))) (x .free);
                 deeper = λ l d. x .deeper l (rw same-length d);
                 places = λ l d. x .places l (omega (arith, same-length));
                 stands = elim (x .stands) [
-                  | here a p g ↦ here (rw (← is-M) (omega (arith, sum-drop, not-last (sizes S) i big b (rw (length-map S size) e))))
+                  | here a p g ↦ here (rw (← is-M) (omega (arith, drop-sum i S b cap, not-last (sizes S) i big b (rw (length-map S size) e))))
                       (x .places (length Ss) (omega (arith, same-length)) ∙ place ∙ sym (q .1), rw (q .0) p) g
                   | past a g ↦ absurd (omega (arith, len-M, nextC))
                 ];
@@ -318,23 +293,23 @@ module _ {enc : List Item → List ℕ} {cap low : ℕ} {o : Ops} (law : Lawful 
                           let se : healLevel o cap up (length Ss) s ≡ nextNode (length Ss) s = simp (en, h, place, q) in
                           rw (is-M, same, se) (moves at-end (ltb-true _ _ f))
                       | isnt f ↦
-                          let lst : suc (parent (sizes S) i) ≡ length S = (let y = ltb-false (suc (parent (sizes S) i)) (length S) f in omega (arith, par-in)) in
-                          let none-right = HealPath.right-none (s .st) (s .ns) (s .ps) C (parent (sizes S) i) Ss (omega (arith, length-C)) stacked hu pathC in
+                          let lst = is-last f in
+                          let none-right = right-none (is-last f) in
                           let se : healLevel o cap up (length Ss) s ≡ lives s false = simp (en, h, place, q, none-right) in
                           rw (is-M, same, se) (ends-here at-end lst)
                     ]
                 | isnt q ↦
                     let y = eqb-false (offset (sizes S) i) left-over q in
                     let se : healLevel o cap up (length Ss) s ≡ s = simp (en, h, place, q) in
-                    rw (is-M, same, se) (stays (omega (arith, over-is, off-in)))
+                    rw (is-M, same, se) (stays (omega (arith, cut-left i S b, off-in)))
               ]
           | isnt h ↦
               let z = leb-false cap (2 * left-over) h in
               let nz : eqb left-over 0 ≡ false = ne-eqb left-over 0 (omega arith) in
               elim (test (ltb (suc (parent (sizes S) i)) (length S))) [
                 | isnt f ↦
-                    let lst : suc (parent (sizes S) i) ≡ length S = (let y = ltb-false (suc (parent (sizes S) i)) (length S) f in omega (arith, par-in)) in
-                    let none-right = HealPath.right-none (s .st) (s .ns) (s .ps) C (parent (sizes S) i) Ss (omega (arith, length-C)) stacked hu pathC in
+                    let lst = is-last f in
+                    let none-right = right-none (is-last f) in
                     let is-M : dropRow cap (parent (sizes S) i) (offset (sizes S) i) S ≡ C = drop-is ∙ HealMend.mend-last cap (parent (sizes S) i) C (omega (arith, xs-length)) (omega (arith, length-C)) in
                     elim (test (ltb (offset (sizes S) i) left-over)) [
                       | is q ↦
@@ -343,7 +318,7 @@ module _ {enc : List Item → List ℕ} {cap low : ℕ} {o : Ops} (law : Lawful 
                       | isnt q ↦
                           let y = ltb-false (offset (sizes S) i) left-over q in
                           let se : healLevel o cap up (length Ss) s ≡ lives s false = simp (en, h, nz, place, none-right, q) in
-                          rw (is-M, same, se) (ends-here (omega (arith, over-is, off-in)) lst)
+                          rw (is-M, same, se) (ends-here (omega (arith, cut-left i S b, off-in)) lst)
                     ]
                 | is f ↦
                     let e = ltb-true (suc (parent (sizes S) i)) (length S) f in
@@ -381,66 +356,3 @@ module _ {enc : List Item → List ℕ} {cap low : ℕ} {o : Ops} (law : Lawful 
                     ]
               ]
         ]
-
-  -- heal_level with none left
-  pub heal-none : HealStack.Stacked S Ss → left-over ≡ 0 → 2 ≤ sum (sizes S) → s .st (s .ns (length Ss)) ≡ pad 16 [] → HealMem.Holds enc (s .st) (removeAt (parent (sizes S) i) S) →
-      Mended enc (dropRow cap (parent (sizes S) i) (offset (sizes S) i) S) (lost (dropRow cap (parent (sizes S) i) (offset (sizes S) i) S) S) i S Ss s (healLevel o cap up (length Ss) s)
-  heal-none stackedS zero-left two zeros rest = rw (is-M, fewer, se) (with-exit (ih S (removeAt (parent (sizes S) i) S) (parent (sizes S) i) Ss s refl gap par-in two-S stackedS
-      (λ x. omega (arith, HealMem.gone-count S (parent (sizes S) i) x par-in, apart x)) hu path))
-    where
-      alone-in : length (itemsAt S (parent (sizes S) i)) ≡ 1
-      alone-in = omega (arith, over-is)
-
-      is-last : suc (parent (sizes S) i) ≡ length S
-      is-last = elim (test (ltb (suc (parent (sizes S) i)) (length S))) [
-        | is e ↦
-            let z = ltb-true (suc (parent (sizes S) i)) (length S) e in
-            let y = fill-inside low cap (sizes S) (parent (sizes S) i) fill (rw (length-map S size) z) in
-            absurd (omega (arith, length-items S (parent (sizes S) i), alone-in))
-        | isnt e ↦ let z = ltb-false (suc (parent (sizes S) i)) (length S) e in omega (arith, par-in)
-      ]
-
-      two-S : 2 ≤ length S
-      two-S = rw (length-map S size) at (two-nodes (sizes S) i (is-last ∙ sym (length-map S size)) (sym (length-items S (parent (sizes S) i)) ∙ alone-in) two)
-
-      gap : HealStep.Gap (removeAt (parent (sizes S) i) S) S (parent (sizes S) i)
-      gap = record {
-        alike = HealStack.alike-same (sym (HealRows.line-removeAt (parent (sizes S) i) S));
-        fronts = λ a c. absurd (omega (arith, is-last));
-      }
-
-      is-M : dropRow cap (parent (sizes S) i) (offset (sizes S) i) S ≡ removeAt (parent (sizes S) i) S
-      is-M = drop-is ∙ HealMend.mend-empty cap (parent (sizes S) i) C
-          (ap length (HealRows.upd-same (parent (sizes S) i) (removeAt (offset (sizes S) i)) S par-in) ∙ zero-left)
-          (is-last ∙ sym (HealRows.upd-length (parent (sizes S) i) (removeAt (offset (sizes S) i)) S)) ∙
-          remove-upd (parent (sizes S) i) (removeAt (offset (sizes S) i)) S
-
-      len-M : suc (length (removeAt (parent (sizes S) i) S)) ≡ length S
-      len-M = length-removeAt (parent (sizes S) i) S par-in
-
-      fewer : lost (removeAt (parent (sizes S) i) S) S ≡ true
-      fewer = lt-ltb (length (removeAt (parent (sizes S) i) S)) (length S) (omega (arith, len-M))
-
-      se : healLevel o cap up (length Ss) s ≡ up s
-      se = simp (zeros, law .entries-none, lt-leb cap (2 * 0) (omega (arith, law .least-two, law .least-half)), eq-eqb 0 0 refl)
-
-      with-exit : Exit (removeAt (parent (sizes S) i) S) (parent (sizes S) i) (HealRows.numAt S (parent (sizes S) i)) Ss s (up s) → Mended enc (removeAt (parent (sizes S) i) S) true i S Ss s (up s)
-      with-exit x = record {
-        rows = x .rows;
-        shape = x .shape;
-        stacked = x .stacked;
-        row = HealMem.holds-apart enc (s .st) ((up s) .st) (HealRows.numAt S (parent (sizes S) i) ∷ numbers Ss) (removeAt (parent (sizes S) i) S) (x .keeps)
-            (λ y. omega (arith, HealMem.gone-count S (parent (sizes S) i) y par-in, apart y)) rest;
-        up = x .up;
-        keeps = λ y c.
-            let c2 : count y (nums S) + count y (numbers Ss) ≡ 0 = rw (total-append (λ z. Rattle.forest.specs.Lists.once (eqb y z)) (nums S) (numbers Ss)) at c in
-            x .keeps y (omega (arith, HealMem.gone-count S (parent (sizes S) i) y par-in));
-        zeros = λ y c d. x .zeros y (omega (arith, HealMem.gone-count S (parent (sizes S) i) y par-in)) (omega arith);
-        free = x .free;
-        deeper = x .deeper;
-        places = λ l d. x .places l (omega arith);
-        stands = elim (x .stands) [
-          | here a p g ↦ absurd (omega (arith, len-M, is-last))
-          | past a g ↦ past (rw (← is-M) (omega (arith, sum-drop, HealStep.ends (sizes S) i b (is-last ∙ sym (length-map S size)), length-items S (parent (sizes S) i), alone-in, off-in))) g
-        ];
-      }

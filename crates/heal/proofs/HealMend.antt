@@ -8,6 +8,7 @@ use borrow.Author.Tests.{eq-eqb, ne-eqb, le-leb, lt-leb}
 use Rattle.forest.specs.Lists.{removeAt}
 use Rattle.forest.specs.Pairs.{Item}
 use Rattle.forest.specs.Rows.{Row, size, front, nums, line, itemsAt, alone, heal, dropRow}
+use Rattle.forest.proofs.Descent.{front-append}
 use Rattle.crit.specs.Paths.{upd}
 use Rattle.crit.proofs.HealRows.{rekeyAt, upd-nums, nums-removeAt}
 pub use Rattle.node.specs.Nodes.{keep}
@@ -73,11 +74,7 @@ mend-shares c (suc j) (n ∷ R) h l f = ap (n ∷_) (mend-shares c j R h (omega 
 pub merge-line : (j : ℕ) (R : Row) → suc j < length R → 1 ≤ length (itemsAt R j) → line (mergeAt j R) ≡ removeAt j (rekeyAt (suc j) (front (itemsAt R j)) (line R))
 merge-line j [] h k = absurd (omega arith)
 merge-line zero (n ∷ []) h k = absurd (omega arith)
-merge-line zero (n ∷ m ∷ R) h k = ap (λ (x : ℕ). (x, m .num) ∷ line R) (ahead (n .items) (m .items) k)
-  where
-    ahead : (xs ys : List Item) → 1 ≤ length xs → front (xs ++ ys) ≡ front xs
-    ahead [] ys k = absurd (omega arith)
-    ahead (x ∷ xs) ys k = refl
+merge-line zero (n ∷ m ∷ R) h k = ap (λ (x : ℕ). (x, m .num) ∷ line R) (front-append (n .items) (m .items) k)
 merge-line (suc j) (n ∷ R) h k = ap ((front (n .items), n .num) ∷_) (merge-line j R (omega arith) k)
 
 pub merge-nums : (j : ℕ) (R : Row) → nums (mergeAt j R) ≡ removeAt j (nums R)

@@ -6,15 +6,15 @@ use mathlib.Core.Option.{some}
 use Prim.Native.Nat.{ℕ, suc, _+_, _-_, _≤_, _<_}
 use native.Mathlib.Omega.{arith}
 use lib.ListN.{length, getD, length-map}
-use lib.Dec.{ltb, eqb, leb}
+use lib.Dec.{ltb, leb}
 use borrow.Author.Tests.{ltb-true, ltb-false}
-use Rattle.forest.specs.Lists.{removeAt, once, parent, offset}
+use Rattle.forest.specs.Lists.{removeAt, parent, offset}
 use Rattle.forest.specs.Pairs.{Item}
 use Rattle.forest.specs.Rows.{Row, size, front, nums, sizes, itemsAt}
 use Rattle.forest.specs.Trees.{numbers}
 use Rattle.forest.specs.Pools.{innerWords}
-use Rattle.forest.proofs.ListLaws.{is, isnt, test, total-append, parent-lt, offset-lt, length-removeAt}
-use Rattle.forest.proofs.RowLaws.{length-items}
+use Rattle.forest.proofs.ListLaws.{is, isnt, test}
+use Rattle.forest.proofs.RowLaws.{length-items, parent-there, offset-there}
 use Rattle.crit.specs.States.{State, stored}
 use Rattle.heal.specs.Steps.{Ops, freeNode, parentCut, emptyNode}
 use Rattle.heal.specs.Wounds.{Emptied, Wounded, alive, dead, Within}
@@ -25,14 +25,14 @@ use Rattle.crit.proofs.HealPath
 use Rattle.crit.proofs.HealNext
 use Rattle.heal.proofs.HealMend
 use Rattle.heal.proofs.HealStep
-use Rattle.heal.proofs.FreeLaws.{upto-one}
-use Rattle.heal.proofs.HealShape.{two-nodes}
+use Rattle.forest.proofs.CountLaws.{small}
+use Rattle.heal.proofs.HealCut.{cut-length, cut-name, cut-path, cut-left, alone-gap, alone-two}
 use Rattle.heal.proofs.HealUp.{Lawful, empty-up, wounded}
-use Rattle.forest.proofs.Sentences.{fill-inside}
+use Rattle.forest.proofs.WordLaws.{count-append}
 
 -- a number that stands once among those in use and the free ones
 pub within-once : (N : ℕ) (xs free : List ℕ) → Within N xs free → HealMem.Once xs
-within-once N xs free w x = omega (arith, w x, upto-one (leb 1 x && leb x N))
+within-once N xs free w x = omega (arith, w x, small (leb 1 x && leb x N))
 
 -- empty_node calls heal_level
 pub ready-cut : {o : Ops} (law : Lawful o innerWords 8 4) (N l : ℕ) (s : State) → Emptied N (suc l) s → Wounded innerWords 8 4 N l (parentCut o (freeNode s (s .ns (suc l))) l)
@@ -58,10 +58,10 @@ module _ {enc : List Item → List ℕ} {cap low : ℕ} {o : Ops} (law : Lawful 
   C = HealStep.cutRow (w .at) (w .row)
 
   pub par-in : parent (sizes (w .row)) (w .at) < length (w .row)
-  par-in = rw (length-map (w .row) size) at (parent-lt (sizes (w .row)) (w .at) (w .inside))
+  par-in = parent-there (w .row) (w .at) (w .inside)
 
   pub off-in : offset (sizes (w .row)) (w .at) < length (itemsAt (w .row) (parent (sizes (w .row)) (w .at)))
-  off-in = rw (length-items (w .row) (parent (sizes (w .row)) (w .at))) (offset-lt (sizes (w .row)) (w .at) (w .inside))
+  off-in = offset-there (w .row) (w .at) (w .inside)
 
   pub once-row : HealMem.Once (nums (w .row) ++ numbers (w .rows))
   once-row = within-once N (nums (w .row) ++ numbers (w .rows)) (s .free) (w .within)
@@ -70,13 +70,10 @@ module _ {enc : List Item → List ℕ} {cap low : ℕ} {o : Ops} (law : Lawful 
   apart = HealMem.once-append (nums (w .row)) (numbers (w .rows)) once-row
 
   pub len-C : length C ≡ length (w .row)
-  len-C = HealRows.upd-length (parent (sizes (w .row)) (w .at)) (removeAt (offset (sizes (w .row)) (w .at))) (w .row)
-
-  pub name-C : HealRows.numAt C (parent (sizes (w .row)) (w .at)) ≡ HealRows.numAt (w .row) (parent (sizes (w .row)) (w .at))
-  name-C = HealRows.upd-numAt (parent (sizes (w .row)) (w .at)) (parent (sizes (w .row)) (w .at)) (removeAt (offset (sizes (w .row)) (w .at))) (w .row)
+  len-C = cut-length (w .at) (w .row)
 
   pub pathC : HealPath.Path C (parent (sizes (w .row)) (w .at)) (w .rows) (s .ns) (s .ps)
-  pathC = HealNext.path-shape (w .row) C (parent (sizes (w .row)) (w .at)) (s .ns) (s .ps) (sym name-C) (HealStack.same-refl (w .rows)) (w .path)
+  pathC = cut-path (w .at) (w .row) (w .rows) (s .ns) (s .ps) (w .path)
 
   -- heal_level calls empty_node
   pub ready-none : o .entries (s .st (s .ns l)) ≡ 0 → Emptied N l s
@@ -84,7 +81,7 @@ module _ {enc : List Item → List ℕ} {cap low : ℕ} {o : Ops} (law : Lawful 
     | alive more st row ↦
         let xs : itemsAt C (parent (sizes (w .row)) (w .at)) ≡ removeAt (offset (sizes (w .row)) (w .at)) (itemsAt (w .row) (parent (sizes (w .row)) (w .at))) =
         HealRows.upd-same (parent (sizes (w .row)) (w .at)) (removeAt (offset (sizes (w .row)) (w .at))) (w .row) par-in in
-        let lx = length-removeAt (offset (sizes (w .row)) (w .at)) (itemsAt (w .row) (parent (sizes (w .row)) (w .at))) off-in in
+        let lx = cut-left (w .at) (w .row) (w .inside) in
         let some-xs : 1 ≤ length (itemsAt C (parent (sizes (w .row)) (w .at))) = omega (arith, ap length xs) in
         let a : s .st (s .ns (length (w .rows))) ≡ enc (itemsAt C (parent (sizes (w .row)) (w .at))) =
         ap (s .st) (HealPath.path-node C (parent (sizes (w .row)) (w .at)) (w .rows) (s .ns) (s .ps) pathC) ∙ HealMem.holds-at enc (s .st) C (parent (sizes (w .row)) (w .at)) (omega (arith, len-C, par-in)) row in
@@ -92,27 +89,17 @@ module _ {enc : List Item → List ℕ} {cap low : ℕ} {o : Ops} (law : Lawful 
         let c = rw (w .level) at b in
         absurd (omega arith)
     | dead one st big zeros rest ↦
-        let is-last : suc (parent (sizes (w .row)) (w .at)) ≡ length (w .row) =
-        elim (test (ltb (suc (parent (sizes (w .row)) (w .at))) (length (w .row)))) [
-          | is e ↦
-              let y = fill-inside low cap (sizes (w .row)) (parent (sizes (w .row)) (w .at)) (w .fill) (rw (length-map (w .row) size) (ltb-true (suc (parent (sizes (w .row)) (w .at))) (length (w .row)) e)) in
-              absurd (omega (arith, length-items (w .row) (parent (sizes (w .row)) (w .at)), law .least-two))
-          | isnt e ↦ let y = ltb-false (suc (parent (sizes (w .row)) (w .at))) (length (w .row)) e in omega (arith, par-in)
-        ] in
         record {
           row = w .row;
           below = removeAt (parent (sizes (w .row)) (w .at)) (w .row);
           at = parent (sizes (w .row)) (w .at);
           rows = w .rows;
           level = w .level;
-          gap = record {
-            alike = HealStack.alike-same (sym (HealRows.line-removeAt (parent (sizes (w .row)) (w .at)) (w .row)));
-            fronts = λ a c. absurd (omega arith);
-          };
+          gap = alone-gap (w .at) (w .row) (w .inside) low cap (law .least-two) (w .fill) one;
           inside = par-in;
-          two = rw (length-map (w .row) size) at (two-nodes (sizes (w .row)) (w .at) (is-last ∙ sym (length-map (w .row) size)) (sym (length-items (w .row) (parent (sizes (w .row)) (w .at))) ∙ one) big);
+          two = alone-two (w .at) (w .row) (w .inside) low cap (law .least-two) (w .fill) one big;
           stacked = st;
-          within = λ x. omega (arith, HealMem.gone-count (w .row) (parent (sizes (w .row)) (w .at)) x par-in, w .within x, total-append (λ z. Rattle.forest.specs.Lists.once (eqb x z)) (nums (w .row)) (numbers (w .rows)));
+          within = λ x. omega (arith, HealMem.gone-count (w .row) (parent (sizes (w .row)) (w .at)) x par-in, w .within x, count-append x (nums (w .row)) (numbers (w .rows)));
           up = w .up;
           path = w .path;
         }
@@ -145,7 +132,7 @@ module _ {enc : List Item → List ℕ} {cap low : ℕ} {o : Ops} (law : Lawful 
     inside = rw (m .len) (omega arith);
     two = rw (m .len) (omega arith);
     stacked = m .stacked;
-    within = λ x. rw (m .name ∙ name-C, HealNext.shape-numbers (m .shape)) (omega (arith, HealMem.gone-count (w .row) (parent (sizes (w .row)) (w .at)) x par-in, w .within x, total-append (λ z. Rattle.forest.specs.Lists.once (eqb x z)) (nums (w .row)) (numbers (w .rows))));
+    within = λ x. rw (m .name ∙ cut-name (w .at) (w .row), HealNext.shape-numbers (m .shape)) (omega (arith, HealMem.gone-count (w .row) (parent (sizes (w .row)) (w .at)) x par-in, w .within x, count-append x (nums (w .row)) (numbers (w .rows))));
     up = m .up;
     path = HealNext.path-shape C (m .ghost) (parent (sizes (w .row)) (w .at)) (s .ns) (s .ps) (sym (m .name)) (HealStack.same-sym (m .shape)) pathC;
   }
@@ -156,7 +143,7 @@ module _ {enc : List Item → List ℕ} {cap low : ℕ} {o : Ops} (law : Lawful 
   merge-here more st row h fits =
       let xe : xs ≡ removeAt (offset (sizes (w .row)) (w .at)) (itemsAt (w .row) (parent (sizes (w .row)) (w .at))) =
       HealRows.upd-same (parent (sizes (w .row)) (w .at)) (removeAt (offset (sizes (w .row)) (w .at))) (w .row) par-in in
-      let lx = length-removeAt (offset (sizes (w .row)) (w .at)) (itemsAt (w .row) (parent (sizes (w .row)) (w .at))) off-in in
+      let lx = cut-left (w .at) (w .row) (w .inside) in
       let some-xs : 1 ≤ length xs = omega (arith, ap length xe) in
       let ly : length ys ≡ getD (sizes (w .row)) (suc (parent (sizes (w .row)) (w .at))) 0 =
       ap length (HealRows.upd-next (parent (sizes (w .row)) (w .at)) (removeAt (offset (sizes (w .row)) (w .at))) (w .row)) ∙ length-items (w .row) (suc (parent (sizes (w .row)) (w .at))) in
@@ -183,7 +170,7 @@ module _ {enc : List Item → List ℕ} {cap low : ℕ} {o : Ops} (law : Lawful 
         | alive more st row ↦ elim (test (ltb (suc (parent (sizes (w .row)) (w .at))) (length C))) [
           | is e ↦
               let h = ltb-true (suc (parent (sizes (w .row)) (w .at))) (length C) e in
-              let r = HealPath.right-is (s .st) (s .ns) (s .ps) (0, 0) C (parent (sizes (w .row)) (w .at)) (w .rows) h st (w .up) pathC ∙ ap some (HealRows.line-at (0, 0) C (suc (parent (sizes (w .row)) (w .at))) h) in
+              let r = HealPath.right-is (s .st) (s .ns) (s .ps) C (parent (sizes (w .row)) (w .at)) (w .rows) h st (w .up) pathC ∙ ap some (HealRows.line-at (0, 0) C (suc (parent (sizes (w .row)) (w .at))) h) in
               let q : _≡_ {A = Item} (front ys, mate) x = cc (r, right) in
               subst (λ (x : Item). o .entries (s .st (s .ns L)) + o .entries (s .st (x .1)) ≤ cap →
               Emptied N L (stored s (HealStep.handKey (HealMem.put (s .st) (x .1) (o .gather (s .st (s .ns L)) (s .st (x .1)) (x .0))) (s .ns) (s .ps) L))) q

@@ -5,7 +5,7 @@ use mathlib.Core.Bool.{Bool, true, false, cond}
 use mathlib.Core.Option.{none}
 use Prim.Native.Nat.{ℕ, zero, suc, _+_, _-_, _*_, _≤_, _<_, min}
 use native.Mathlib.Omega.{arith}
-use lib.ListN.{length, take, drop, getD, length-append, length-map, length-take, length-drop}
+use lib.ListN.{length, take, drop, getD, length-append, length-take, length-drop}
 use lib.Dec.{ltb, eqb, leb}
 use borrow.Author.Tests.{ltb-true, ltb-false}
 use Rattle.forest.specs.Lists.{removeAt, sum, count, pad, parent, offset}
@@ -13,7 +13,7 @@ use Rattle.forest.specs.Pairs.{Item}
 use Rattle.forest.specs.Rows.{Node, Row, size, front, nums, sizes, itemsAt, dropRow, alone, heal, without}
 use Rattle.forest.specs.Trees.{numbers, dropAt, dropUp, freedUp, lost}
 use Rattle.forest.specs.Pools.{pushAll}
-use Rattle.forest.proofs.ListLaws.{is, isnt, test, length-removeAt, cons-eq, map-append}
+use Rattle.forest.proofs.ListLaws.{is, isnt, test, cons-eq, map-append}
 use Rattle.crit.specs.States.{State}
 use Rattle.heal.specs.Steps.{Ops}
 use Rattle.crit.proofs.HealRows
@@ -22,6 +22,7 @@ use Rattle.crit.proofs.HealMem
 use Rattle.crit.proofs.HealPath
 use Rattle.heal.proofs.HealMend
 use Rattle.heal.proofs.HealStep
+use Rattle.forest.proofs.UniqueLaws.{nums-length}
 
 -- what the operations on a node's words do to the words of items, with capacity and least fill
 pub record Lawful (o : Ops) (enc : List Item → List ℕ) (cap low : ℕ) : Type 0 where
@@ -104,9 +105,6 @@ items-next j f [] = refl
 items-next zero f (n ∷ R) = refl
 items-next (suc j) f (n ∷ R) = items-next j f R
 
-pub row-removeAt : (j : ℕ) (R : Row) → j < length R → suc (length (removeAt j R)) ≡ length R
-row-removeAt j R h = length-removeAt j R h
-
 -- A drop goes by numbers and sizes only
 length-removeAt-same : (p : ℕ) (xs ys : List Item) → length xs ≡ length ys → length (removeAt p xs) ≡ length (removeAt p ys)
 length-removeAt-same p [] [] e = refl
@@ -175,29 +173,19 @@ some-upd (suc j) f (n ∷ R) p h = (p .0, some-upd j f R (p .1) h)
 pub not-last : (gs : List ℕ) (i : ℕ) → HealStack.Some gs → i < sum gs → suc (parent gs i) < length gs → suc i < sum gs
 not-last [] i p b h = absurd (omega arith)
 not-last (g ∷ gs) i p b h = elim (test (ltb i g)) [
-  | is e ↦ let z : 1 < suc (length gs) = simp e at h in let y = ltb-true i g e in let x = positive gs (p .1) (omega arith) in omega arith
+  | is e ↦ let z : 1 < suc (length gs) = simp e at h in let y = ltb-true i g e in let x = HealStack.some-sum gs (p .1) (omega arith) in omega arith
   | isnt e ↦
       let z : suc (suc (parent gs (i - g))) < suc (length gs) = simp e at h in
       let y = ltb-false i g e in
       let x = not-last gs (i - g) (p .1) (omega arith) (omega arith) in omega arith
 ]
-  where
-    positive : (hs : List ℕ) → HealStack.Some hs → 1 ≤ length hs → 1 ≤ sum hs
-    positive [] p l = absurd (omega arith)
-    positive (x ∷ hs) p l = omega arith
-
-pub front-take : (n : ℕ) (xs : List Item) → 1 ≤ n → front (take n xs) ≡ front xs
-front-take zero xs h = absurd (omega arith)
-front-take (suc n) [] h = refl
-front-take (suc n) (x ∷ xs) h = refl
 
 pub dropUp-shape : (i : ℕ) {Ss Ss′ : List Row} → HealStack.SameShape Ss Ss′ → HealStack.SameShape (dropUp i Ss) (dropUp i Ss′)
 dropUp-shape i HealStack.none = HealStack.none
 dropUp-shape i (HealStack.also {S} {S′} {Ss} {Ss′} a b r) =
     let z = drop-shape 8 (parent (sizes S′) i) (offset (sizes S′) i) S S′ a b in
-    let len : length S ≡ length S′ = sym (length-map S (λ (n : Node). n .num)) ∙ ap length a ∙ length-map S′ (λ (n : Node). n .num) in
-    let len2 : length (dropRow 8 (parent (sizes S′) i) (offset (sizes S′) i) S) ≡ length (dropAt i S′) =
-    sym (length-map (dropRow 8 (parent (sizes S′) i) (offset (sizes S′) i) S) (λ (n : Node). n .num)) ∙ ap length (z .0) ∙ length-map (dropAt i S′) (λ (n : Node). n .num) in
+    let len = nums-length S S′ a in
+    let len2 = nums-length (dropRow 8 (parent (sizes S′) i) (offset (sizes S′) i) S) (dropAt i S′) (z .0) in
     rw b (elim (test (lost (dropAt i S′) S′)) [
       | is e ↦
           let e2 : lost (dropRow 8 (parent (sizes S′) i) (offset (sizes S′) i) S) S ≡ true = rw (len, len2) e in
@@ -211,18 +199,12 @@ pub freedUp-shape : (i : ℕ) {Ss Ss′ : List Row} → HealStack.SameShape Ss S
 freedUp-shape i HealStack.none = refl
 freedUp-shape i (HealStack.also {S} {S′} {Ss} {Ss′} a b r) =
     let z = drop-shape 8 (parent (sizes S′) i) (offset (sizes S′) i) S S′ a b in
-    let len : length S ≡ length S′ = sym (length-map S (λ (n : Node). n .num)) ∙ ap length a ∙ length-map S′ (λ (n : Node). n .num) in
-    let len2 : length (dropRow 8 (parent (sizes S′) i) (offset (sizes S′) i) S) ≡ length (dropAt i S′) =
-    sym (length-map (dropRow 8 (parent (sizes S′) i) (offset (sizes S′) i) S) (λ (n : Node). n .num)) ∙ ap length (z .0) ∙ length-map (dropAt i S′) (λ (n : Node). n .num) in
+    let len = nums-length S S′ a in
+    let len2 = nums-length (dropRow 8 (parent (sizes S′) i) (offset (sizes S′) i) S) (dropAt i S′) (z .0) in
     rw (b, len, len2, a, freedUp-shape (parent (sizes S′) i) r)
 
 pub least-of : (a b : ℕ) → a ≤ b → min a b ≡ a
 least-of a b h = omega arith
-
-pub two-nodes : (gs : List ℕ) (i : ℕ) → suc (parent gs i) ≡ length gs → getD gs (parent gs i) 0 ≡ 1 → 2 ≤ sum gs → 2 ≤ length gs
-two-nodes [] i e h t = absurd (omega arith)
-two-nodes (g ∷ []) i e h t = absurd (let z : parent (g ∷ []) i ≡ 0 = omega arith in let y : g ≡ 1 = rw z at h in omega arith)
-two-nodes (g ∷ g′ ∷ gs) i e h t = omega arith
 
 pub remove-upd : (j : ℕ) (f : List Item → List Item) (R : Row) → removeAt j (HealRows.upd j f R) ≡ removeAt j R
 remove-upd j f [] = refl

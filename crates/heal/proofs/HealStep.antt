@@ -4,14 +4,14 @@ use mathlib.Core.List.{List, [], _∷_, _++_}
 use mathlib.Core.Bool.{false}
 use Prim.Native.Nat.{ℕ, zero, suc, _+_, _-_, _≤_, _<_}
 use native.Mathlib.Omega.{arith}
-use lib.ListN.{length, take, getD, length-map}
+use lib.ListN.{length, take, getD}
 use lib.Dec.{ltb, eqb}
-use borrow.Author.Tests.{lt-ltb, le-ltb, ltb-true, ltb-false, eqb-true, eqb-false}
-use Rattle.forest.specs.Lists.{removeAt, sum, once, count, parent, offset}
+use borrow.Author.Tests.{lt-ltb, le-ltb, ltb-false, eqb-true, eqb-false}
+use Rattle.forest.specs.Lists.{removeAt, sum, count, parent, offset}
 use Rattle.forest.specs.Pairs.{Item}
-use Rattle.forest.specs.Rows.{Row, size, front, nums, sizes, joined, line, itemsAt}
+use Rattle.forest.specs.Rows.{Row, front, nums, sizes, joined, line, itemsAt}
 use Rattle.forest.specs.Trees.{numbers}
-use Rattle.forest.proofs.ListLaws.{is, isnt, test, total-append, parent-lt, offset-lt}
+use Rattle.forest.proofs.ListLaws.{is, isnt, test}
 use Rattle.forest.proofs.RowLaws.{length-items}
 use Rattle.crit.proofs.HealRows
 use Rattle.crit.proofs.HealStack
@@ -20,7 +20,8 @@ use Rattle.crit.proofs.HealPath
 use Rattle.heal.proofs.HealMend
 pub use Rattle.heal.specs.Wounds.{Gap, cutRow}
 pub use Rattle.crit.specs.States.{handWith, handKey}
-use Rattle.forest.proofs.Sentences.{fill-inside}
+use Rattle.forest.proofs.Descent.{front-append, front-first}
+use Rattle.forest.proofs.WordLaws.{count-append}
 
 -- a place in groups of which only the later ones change
 pub spot : (gs hs : List ℕ) (i : ℕ) → take (parent gs i) hs ≡ take (parent gs i) gs → offset gs i < getD hs (parent gs i) 0 → (parent hs i ≡ parent gs i) × (offset hs i ≡ offset gs i)
@@ -42,18 +43,14 @@ pub spot-next : (gs hs : List ℕ) (i : ℕ) → take (parent gs i) hs ≡ take 
     (parent hs i ≡ suc (parent gs i)) × (offset hs i ≡ 0)
 spot-next gs [] i e h p l = absurd (omega arith)
 spot-next [] (x ∷ hs) i e h p l =
-    let q = HealStack.first hs (p .1) (positive hs (p .1) (omega arith)) in
+    let q = HealStack.first hs (p .1) (HealStack.some-sum hs (p .1) (omega arith)) in
     let z : i - x ≡ 0 = omega arith in
     simp (le-ltb i x (omega arith), z) (ap suc (q .0), q .1)
-  where
-    positive : (hs : List ℕ) → HealStack.Some hs → 1 ≤ length hs → 1 ≤ sum hs
-    positive [] p l = absurd (omega arith)
-    positive (x ∷ hs) p l = omega arith
 spot-next (g ∷ gs) (x ∷ hs) i e h p l = elim (test (ltb i g)) [
   | is f ↦
       let a : x ≡ i = simp f at h in
       let l′ : 1 < suc (length hs) = simp f at l in
-      let q = HealStack.first hs (p .1) (positive hs (p .1) (omega arith)) in
+      let q = HealStack.first hs (p .1) (HealStack.some-sum hs (p .1) (omega arith)) in
       let z : i - x ≡ 0 = omega arith in
       simp (f, le-ltb i x (omega arith), z) (ap suc (q .0), q .1)
   | isnt f ↦
@@ -65,10 +62,6 @@ spot-next (g ∷ gs) (x ∷ hs) i e h p l = elim (test (ltb i g)) [
       let f′ : ltb i x ≡ false = rw q f in
       simp (f, f′, q) (ap suc (z .0), z .1)
 ]
-  where
-    positive : (hs : List ℕ) → HealStack.Some hs → 1 ≤ length hs → 1 ≤ sum hs
-    positive [] p l = absurd (omega arith)
-    positive (x ∷ hs) p l = omega arith
 
 pub inside : (gs : List ℕ) (i : ℕ) → i < sum gs → suc (offset gs i) < getD gs (parent gs i) 0 → suc i < sum gs
 inside [] i b h = absurd (omega arith)
@@ -87,25 +80,12 @@ front-second [] h = absurd (omega arith)
 front-second (x ∷ []) h = absurd (omega arith)
 front-second (x ∷ y ∷ xs) h = refl
 
-front-first : (xs : List Item) → 1 ≤ length xs → front xs ≡ (getD xs 0 (0, 0)) .0
-front-first [] h = absurd (omega arith)
-front-first (x ∷ xs) h = refl
-
 module _ (R′ R : Row) (i : ℕ) (S : Row) (Ss : List Row) (g : Gap R′ R i) (h : i < length R) (s : HealStack.Stacked R (S ∷ Ss)) where
   cut-total : sum (sizes S) ≡ length R
   cut-total = HealStack.stacked-sum R S (s .0)
 
   cut-in : i < sum (sizes S)
   cut-in = omega (arith, cut-total)
-
-  pub cut-par : parent (sizes S) i < length S
-  cut-par = rw (length-map S size) at (parent-lt (sizes S) i cut-in)
-
-  pub cut-off : offset (sizes S) i < length (itemsAt S (parent (sizes S) i))
-  cut-off = rw (length-items S (parent (sizes S) i)) (offset-lt (sizes S) i cut-in)
-
-  pub cut-alike : HealStack.Alike (joined (cutRow i S)) (line R′)
-  cut-alike = HealStack.alike-trans (HealStack.alike-same (HealRows.cut-joined S i cut-in)) (HealStack.alike-trans (HealStack.alike-remove i (s .0)) (g .alike))
 
   -- with an item left the rows above stay as they are
   same-front : (p : ℕ) → parent (sizes S) i ≡ suc p → 2 ≤ length (itemsAt S (parent (sizes S) i)) → front (removeAt (offset (sizes S) i) (itemsAt S (parent (sizes S) i))) ≡ front (itemsAt S (parent (sizes S) i))
@@ -150,37 +130,7 @@ module _ (R′ R : Row) (i : ℕ) (S : Row) (Ss : List Row) (g : Gap R′ R i) (
     where
       by : (p : ℕ) → parent (sizes S) i ≡ p → HealStack.Alike (line (cutRow i S)) (line S)
       by zero e = rw (HealRows.upd-line (parent (sizes S) i) (removeAt (offset (sizes S) i)) S, e) (HealStack.alike-first _ (line S))
-      by (suc p) e = HealStack.alike-same (HealStack.line-keep (parent (sizes S) i) (removeAt (offset (sizes S) i)) S cut-par (same-front p e two))
-
-  -- with none left the parent is the last of its row, and goes in turn
-  pub cut-last : length (itemsAt S (parent (sizes S) i)) ≡ 1 → suc (parent (sizes S) i) ≡ length S
-  cut-last one = elim (test (ltb (suc (parent (sizes S) i)) (length S))) [
-    | is e ↦
-        let z = ltb-true _ _ e in
-        let y = fill-inside 4 8 (sizes S) (parent (sizes S) i) (s .1) (rw (length-map S size) z) in
-        absurd (omega (arith, length-items S (parent (sizes S) i)))
-    | isnt e ↦ let z = ltb-false (suc (parent (sizes S) i)) (length S) e in omega (arith, cut-par)
-  ]
-
-  pub cut-gap : length (itemsAt S (parent (sizes S) i)) ≡ 1 → Gap (removeAt (parent (sizes S) i) S) S (parent (sizes S) i)
-  cut-gap one = record {
-    alike = HealStack.alike-same (sym (HealRows.line-removeAt (parent (sizes S) i) S));
-    fronts = λ a b. absurd (omega (arith, cut-last one));
-  }
-
-  pub cut-below : length (itemsAt S (parent (sizes S) i)) ≡ 1 → joined (removeAt (parent (sizes S) i) S) ≡ joined (cutRow i S)
-  cut-below one = gone S (parent (sizes S) i) (removeAt (offset (sizes S) i)) (none-left (offset (sizes S) i) (itemsAt S (parent (sizes S) i)) one cut-off)
-    where
-      none-left : (o : ℕ) (xs : List Item) → length xs ≡ 1 → o < length xs → removeAt o xs ≡ []
-      none-left o [] q l = absurd (omega arith)
-      none-left zero (x ∷ []) q l = refl
-      none-left (suc o) (x ∷ []) q l = absurd (omega arith)
-      none-left o (x ∷ y ∷ xs) q l = absurd (omega arith)
-
-      gone : (S : Row) (j : ℕ) (f : List Item → List Item) → f (itemsAt S j) ≡ [] → joined (removeAt j S) ≡ joined (HealRows.upd j f S)
-      gone [] j f e = refl
-      gone (n ∷ S) zero f e = rw e
-      gone (n ∷ S) (suc j) f e = ap (n .items ++_) (gone S j f e)
+      by (suc p) e = HealStack.alike-same (HealStack.line-same (parent (sizes S) i) (removeAt (offset (sizes S) i)) S (same-front p e two))
 
 -- The merge: everything goes to the right neighbour
 module _ (R : Row) (j : ℕ) (S : Row) (Ss : List Row) (s : HealStack.Stacked R (S ∷ Ss)) (h : suc j < length R) (one : 1 ≤ length (itemsAt R j)) where
@@ -192,15 +142,11 @@ module _ (R : Row) (j : ℕ) (S : Row) (Ss : List Row) (s : HealStack.Stacked R 
   mergedUp zero = S ∷ Ss
   mergedUp (suc i) = HealStack.setKey (suc j) (front (itemsAt R j)) (S ∷ Ss)
 
-  ahead : (xs ys : List Item) → 1 ≤ length xs → front (xs ++ ys) ≡ front xs
-  ahead [] ys k = absurd (omega arith)
-  ahead (x ∷ xs) ys k = refl
-
   pub merge-stacked : (i : ℕ) → HealStack.Stacked (phantom i) (mergedUp i)
   merge-stacked zero = s
   merge-stacked (suc i) =
       HealStack.setKey-stacked R (phantom (suc i)) (S ∷ Ss) (suc j) (front (itemsAt R j)) h
-      (HealStack.alike-same (sym (HealRows.upd-line (suc j) (λ ys. itemsAt R j ++ ys) R ∙ ap (λ (k : ℕ). HealRows.rekeyAt (suc j) k (line R)) (ahead (itemsAt R j) (itemsAt R (suc j)) one)))) s
+      (HealStack.alike-same (sym (HealRows.upd-line (suc j) (λ ys. itemsAt R j ++ ys) R ∙ ap (λ (k : ℕ). HealRows.rekeyAt (suc j) k (line R)) (front-append (itemsAt R j) (itemsAt R (suc j)) one)))) s
 
   pub merge-shape : (i : ℕ) → HealStack.SameShape (mergedUp i) (S ∷ Ss)
   merge-shape zero = HealStack.same-refl (S ∷ Ss)
@@ -217,7 +163,7 @@ merge-gap R zero S Ss s h one = record {
     swap (x ∷ xs) = HealStack.alike-sym (HealStack.alike-first (front (itemsAt R 0)) xs)
 merge-gap R (suc j) S Ss s h one = record {
   alike = HealStack.alike-same (sym (HealRows.line-removeAt (suc j) (phantom R (suc j) S Ss s h one (suc j))));
-  fronts = λ a b. earlier R (suc j) (λ ys. itemsAt R (suc j) ++ ys) ∙ sym (ahead R (suc j) S Ss s h one (itemsAt R (suc j)) (itemsAt R (suc (suc j))) one) ∙
+  fronts = λ a b. earlier R (suc j) (λ ys. itemsAt R (suc j) ++ ys) ∙ sym (front-append (itemsAt R (suc j)) (itemsAt R (suc (suc j))) one) ∙
       sym (ap front (HealRows.upd-same (suc (suc j)) (λ ys. itemsAt R (suc j) ++ ys) R h));
 }
   where
@@ -314,7 +260,7 @@ merge-ready enc R zero (S ∷ Ss) st ns ps s h one o hr hu p w e =
     })
   where
     none-of : (x : ℕ) (xs ys : List ℕ) → count x (xs ++ ys) ≡ 0 → count x xs ≡ 0
-    none-of x xs ys c = let z = rw (total-append (λ z. once (eqb x z)) xs ys) at c in omega arith
+    none-of x xs ys c = let z = rw (count-append x xs ys) at c in omega arith
 merge-ready enc R (suc j) (S ∷ Ss) st ns ps s h one o hr hu p w e =
     let c = HealPath.crit-is (HealMem.put st (HealRows.numAt R (suc (suc j))) w) ns ps R j (S ∷ Ss) (omega arith) s (righted-up enc R (suc j) (S ∷ Ss) st ns ps s h o hr hu p st w hu) p in
     let k = front (itemsAt R (suc j)) in
@@ -330,6 +276,6 @@ merge-ready enc R (suc j) (S ∷ Ss) st ns ps s h one o hr hu p w e =
       row = HealMem.holds-remove enc (keyed enc R (suc j) (S ∷ Ss) st ns ps s h o hr hu p w f e k) (HealRows.upd (suc (suc j)) f R) (suc j) (keyed-row enc R (suc j) (S ∷ Ss) st ns ps s h o hr hu p w f e k);
       up = keyed-up enc R (suc j) (S ∷ Ss) st ns ps s h o hr hu p w f e k;
       keeps = λ x c.
-          let z : count x (nums R) + count x (numbers (S ∷ Ss)) ≡ 0 = rw (total-append (λ z. once (eqb x z)) (nums R) (numbers (S ∷ Ss))) at c in
+          let z : count x (nums R) + count x (numbers (S ∷ Ss)) ≡ 0 = rw (count-append x (nums R) (numbers (S ∷ Ss))) at c in
           keyed-keeps enc R (suc j) (S ∷ Ss) st ns ps s h o hr hu p w f e k x (omega arith) ∙ righted-keeps enc R (suc j) (S ∷ Ss) st ns ps s h o hr hu p st w x (omega arith);
     })

@@ -4,33 +4,32 @@ use mathlib.Core.List.{List, [], _∷_, _++_, map}
 use mathlib.Core.Bool.{Bool, true, false, cond}
 use Prim.Native.Nat.{ℕ, suc, _+_, _-_, _≤_, _<_}
 use native.Mathlib.Omega.{arith}
-use lib.ListN.{length, take, drop, length-map}
+use lib.ListN.{length, take, drop}
 use lib.Seq.{take-append-seam, drop-append-seam}
 use lib.Dec.{ltb, eqb}
 use borrow.Author.Tests.{ltb-true, ltb-false, eqb-false, ne-eqb}
 use Rattle.forest.specs.Lists.{removeAt, sum, pad, parent, offset}
 use Rattle.forest.specs.Pairs.{Item}
-use Rattle.forest.specs.Rows.{Row, size, front, nums, sizes, joined, line, itemsAt, Fill, dropRow, rekey, refresh}
+use Rattle.forest.specs.Rows.{Row, front, nums, sizes, joined, line, itemsAt, Fill, dropRow, rekey, refresh}
 use Rattle.forest.specs.Trees.{numbers, dropUp, lost}
 use Rattle.forest.specs.Pools.{innerWords}
-use Rattle.forest.proofs.ListLaws.{is, isnt, test, total-append, parent-lt, offset-lt, length-removeAt, cons-eq}
-use Rattle.forest.proofs.RowLaws.{length-items, fill-at}
+use Rattle.forest.proofs.ListLaws.{is, isnt, test, cons-eq}
+use Rattle.forest.proofs.RowLaws.{length-items, fill-at, parent-there, offset-there}
 use Rattle.crit.specs.States.{State, stored}
 use Rattle.heal.specs.Steps.{Ops, healLevel, emptyNode, parentCut, fronted, removeAtCursor}
-use Rattle.heal.specs.Wounds.{Within, Wounded, alive, dead}
+use Rattle.heal.specs.Wounds.{Left, Within, Wounded, alive, dead}
 use Rattle.crit.proofs.HealRows
 use Rattle.crit.proofs.HealStack
 use Rattle.crit.proofs.HealMem
 use Rattle.crit.proofs.HealPath
 use Rattle.crit.proofs.HealNext
 use Rattle.heal.proofs.HealStep
-use Rattle.heal.proofs.HealUp.{Lawful, Mended, empty-up, heal-some, heal-none, dropUp-shape, freedUp-shape}
+use Rattle.heal.proofs.HealUp.{Lawful, Heals, Mended, empty-up, heal-some, heal-none, dropUp-shape, freedUp-shape}
+use Rattle.forest.proofs.WordLaws.{count-append}
+use Rattle.forest.proofs.NodeForms.{rekey-same}
+use Rattle.heal.proofs.HealCut.{cut-left}
 
 -- Rows that are stacked up to first keys, brought up to date: the words are the same
-rekey-joined : (S : Row) → rekey (joined S) S ≡ S
-rekey-joined [] = refl
-rekey-joined (n ∷ S) = rw (take-append-seam (n .items) (joined S), drop-append-seam (n .items) (joined S), rekey-joined S)
-
 first-part : (zs rest ys : List Item) → 1 ≤ length zs → HealStack.Alike (zs ++ rest) ys → (take (length zs) ys ≡ HealRows.rekeyAt 0 (front ys) zs) × (drop (length zs) ys ≡ rest)
 first-part [] rest ys h a = absurd (omega arith)
 first-part (x ∷ zs) rest [] h a = absurd (let z = HealStack.alike-length a in omega arith)
@@ -47,7 +46,7 @@ pub rekey-first : (S : Row) (ys : List Item) → HealStack.Some (sizes S) → He
 rekey-first [] ys p a = refl
 rekey-first (n ∷ S) ys p a =
     let z = first-part (n .items) (joined S) ys (p .0) a in
-    rw (z .0, z .1, rekey-joined S)
+    rw (z .0, z .1, rekey-same S)
 
 pub refresh-holds : (R : Row) (Ss : List Row) (st : HealMem.Store) → HealStack.Stacked R Ss → HealMem.HoldsUp st Ss → HealMem.HoldsUp st (refresh R Ss)
 refresh-holds R [] st s h = tt
@@ -61,6 +60,16 @@ refresh-holds R (S ∷ Ss) st s h =
           (HealStack.alike-sym (rw (HealRows.upd-line 0 (HealRows.rekeyAt 0 (front (line R))) S) (HealStack.alike-first _ (line S)))) (s .2)) (h .1),
     )
 
+-- what is there once the leaf is cut and its front key handed up: rows above with other keys, and what is left of the leaf
+record Front (enc : List Item → List ℕ) (L : Row) (i : ℕ) (Rs : List Row) (s t : State) : Type 0 where
+  rows : List Row
+  store : HealMem.Store
+  is : t ≡ stored s store
+  shape : HealStack.SameShape rows Rs
+  keeps : HealMem.Keeps (s .st) store (nums L ++ numbers Rs)
+  up : HealMem.HoldsUp store rows
+  left : Left enc L i rows (stored s store)
+
 -- remove at a cursor, where the leaf keeps a pair or the tree has another: cut, key, heal
 module _ {enc : List Item → List ℕ} {cap low : ℕ} {leaf inner : Ops} (leaf-law : Lawful leaf enc cap low) (inner-law : Lawful inner innerWords 8 4) (key : List ℕ → ℕ) where
   module _ (key-is : (xs : List Item) → 1 ≤ length xs → key (enc xs) ≡ front xs) (L : Row) (Rs : List Row) (i : ℕ) (s : State)
@@ -68,10 +77,10 @@ module _ {enc : List Item → List ℕ} {cap low : ℕ} {leaf inner : Ops} (leaf
       (row : HealMem.Holds enc (s .st) L) (up : HealMem.HoldsUp (s .st) Rs)
       (place : s .ps (length Rs) ≡ offset (sizes L) i) (path : HealPath.Path L (parent (sizes L) i) Rs (s .ns) (s .ps)) where
     par-in : parent (sizes L) i < length L
-    par-in = rw (length-map L size) at (parent-lt (sizes L) i b)
+    par-in = parent-there L i b
 
     off-in : offset (sizes L) i < length (itemsAt L (parent (sizes L) i))
-    off-in = rw (length-items L (parent (sizes L) i)) (offset-lt (sizes L) i b)
+    off-in = offset-there L i b
 
     few : length (itemsAt L (parent (sizes L) i)) ≤ cap
     few = rw (length-items L (parent (sizes L) i)) (fill-at low cap (sizes L) (parent (sizes L) i) fill)
@@ -98,7 +107,7 @@ module _ {enc : List Item → List ℕ} {cap low : ℕ} {leaf inner : Ops} (leaf
     upB = HealMem.up-apart (s .st) (sB .st) (nums L) Rs keepsB apart up
 
     sum-L : suc (length (removeAt (offset (sizes L) i) (itemsAt L (parent (sizes L) i)))) ≡ length (itemsAt L (parent (sizes L) i))
-    sum-L = length-removeAt (offset (sizes L) i) (itemsAt L (parent (sizes L) i)) off-in
+    sum-L = cut-left i L b
 
     -- other keys above, of the same shape
     convert : (M : Row) (w : Bool) (Rs1 : List Row) (st : HealMem.Store) (s′ : State) → HealStack.SameShape Rs1 Rs → HealMem.Keeps (s .st) st (nums L ++ numbers Rs) →
@@ -136,136 +145,101 @@ module _ {enc : List Item → List ℕ} {cap low : ℕ} {leaf inner : Ops} (leaf
     Rs1 = HealStack.setKey (parent (sizes L) i) k Rs
 
     -- a pair is left in the leaf
-    keeps-some : 2 ≤ length (itemsAt L (parent (sizes L) i)) → Mended enc M (lost M L) i L Rs s (removeAtCursor leaf cap inner key s (length Rs))
-    keeps-some two =
+    front-some : 2 ≤ length (itemsAt L (parent (sizes L) i)) → Front enc L i Rs s (fronted leaf cap inner key sB (length Rs))
+    front-some two =
         let w : leaf .cut (s .st (s .ns (length Rs))) (s .ps (length Rs)) ≡ enc (removeAt (offset (sizes L) i) (itemsAt L (parent (sizes L) i))) =
         rw (words, place) (leaf-law .cut-is (itemsAt L (parent (sizes L) i)) (offset (sizes L) i) off-in two few) in
         let rowB : HealMem.Holds enc (sB .st) C =
         rw name (HealMem.holds-upd enc (s .st) L (parent (sizes L) i) (removeAt (offset (sizes L) i)) (leaf .cut (s .st (HealRows.numAt L (parent (sizes L) i))) (s .ps (length Rs))) par-in (λ x. omega (arith, apart x)) (rw name at w) row) in
         let wB : sB .st (s .ns (length Rs)) ≡ enc (removeAt (offset (sizes L) i) (itemsAt L (parent (sizes L) i))) =
         HealMem.put-same (s .st) (s .ns (length Rs)) (leaf .cut (s .st (s .ns (length Rs))) (s .ps (length Rs))) ∙ w in
-        let xs = removeAt (offset (sizes L) i) (itemsAt L (parent (sizes L) i)) in
         let some-xs : 1 ≤ length (removeAt (offset (sizes L) i) (itemsAt L (parent (sizes L) i))) = omega (arith, sum-L) in
         let en : leaf .entries (sB .st (s .ns (length Rs))) ≡ length (removeAt (offset (sizes L) i) (itemsAt L (parent (sizes L) i))) = ap (leaf .entries) wB ∙ leaf-law .entries-is (removeAt (offset (sizes L) i) (itemsAt L (parent (sizes L) i))) some-xs in
         let nz : eqb (leaf .entries (sB .st (s .ns (length Rs)))) 0 ≡ false = ne-eqb (leaf .entries (sB .st (s .ns (length Rs)))) 0 (omega arith) in
         elim (test (eqb (offset (sizes L) i) 0)) [
           | is e ↦
               let kk : key (sB .st (s .ns (length Rs))) ≡ front (removeAt (offset (sizes L) i) (itemsAt L (parent (sizes L) i))) = ap key wB ∙ key-is (removeAt (offset (sizes L) i) (itemsAt L (parent (sizes L) i))) some-xs in
-              let f : fronted leaf cap inner key sB (length Rs) ≡ stored s st2 =
-              (let e2 : eqb (s .ps (length Rs)) 0 ≡ true = rw place e in simp (nz, e2) (ap (λ (x : ℕ). stored s (HealPath.leftSet (sB .st) (s .ns) (s .ps) (length Rs) x)) kk)) in
               let keepsF : HealMem.Keeps (sB .st) st2 (numbers Rs) = HealPath.leftSet-keeps (sB .st) (s .ns) (s .ps) L (parent (sizes L) i) k Rs par-in stacked upB path in
               let rowF : HealMem.Holds enc st2 C = HealMem.holds-apart enc (sB .st) st2 (numbers Rs) C keepsF (λ x. rw (HealRows.upd-nums (parent (sizes L) i) (removeAt (offset (sizes L) i)) L) (omega (arith, apart x))) rowB in
-              let stackedC : HealStack.Stacked C Rs1 =
-              HealStack.setKey-stacked L C Rs (parent (sizes L) i) k par-in (HealStack.alike-same (sym (HealRows.upd-line (parent (sizes L) i) (removeAt (offset (sizes L) i)) L))) stacked in
-              let shape = HealStack.setKey-shape (parent (sizes L) i) k Rs in
-              let ln : length Rs1 ≡ length Rs = HealNext.shape-length shape in
-              rw f (convert M (lost M L) Rs1 st2 (healLevel leaf cap (emptyNode inner (length Rs)) (length Rs) (stored s st2)) shape
-              (λ x c.
-              let z = rw (total-append (λ z. Rattle.forest.specs.Lists.once (eqb x z)) (nums L) (numbers Rs)) at c in
-              keepsF x (omega arith) ∙ keepsB x (omega arith))
-              (subst (λ (n : ℕ). Mended enc M (lost M L) i L Rs1 (stored s st2) (healLevel leaf cap (emptyNode inner (length Rs)) n (stored s st2))) ln
-              (heal-some leaf-law (emptyNode inner (length Rs)) i L Rs1 (rw ln (empty-up inner-law (length Rs))) (stored s st2) b fill (rw (HealNext.shape-numbers shape) once)
-              (HealPath.leftSet-holds (sB .st) (s .ns) (s .ps) L (parent (sizes L) i) k Rs par-in stacked (λ x. omega (arith, apart x)) upB path)
-              (rw ln place) (HealNext.path-shape L L (parent (sizes L) i) (s .ns) (s .ps) refl (HealStack.same-sym shape) path) some-xs stackedC rowF)))
+              record {
+                rows = Rs1;
+                store = st2;
+                is = let e2 : eqb (s .ps (length Rs)) 0 ≡ true = rw place e in simp (nz, e2) (ap (λ (x : ℕ). stored s (HealPath.leftSet (sB .st) (s .ns) (s .ps) (length Rs) x)) kk);
+                shape = HealStack.setKey-shape (parent (sizes L) i) k Rs;
+                keeps = λ x c. let z = rw (count-append x (nums L) (numbers Rs)) at c in keepsF x (omega arith) ∙ keepsB x (omega arith);
+                up = HealPath.leftSet-holds (sB .st) (s .ns) (s .ps) L (parent (sizes L) i) k Rs par-in stacked (λ x. omega (arith, apart x)) upB path;
+                left = alive two (HealStack.setKey-stacked L C Rs (parent (sizes L) i) k par-in (HealStack.alike-same (sym (HealRows.upd-line (parent (sizes L) i) (removeAt (offset (sizes L) i)) L))) stacked) rowF;
+              }
           | isnt e ↦
-              let f : fronted leaf cap inner key sB (length Rs) ≡ sB = simp (nz, place, e) in
-              let stackedC : HealStack.Stacked C Rs =
-              HealStack.stacked-line L C Rs (HealStack.alike-same (sym (HealStack.line-keep (parent (sizes L) i) (removeAt (offset (sizes L) i)) L par-in (HealStep.front-cut (offset (sizes L) i) (itemsAt L (parent (sizes L) i)) (eqb-false _ _ e))))) stacked in
-              rw f (convert M (lost M L) Rs (sB .st) (healLevel leaf cap (emptyNode inner (length Rs)) (length Rs) sB) (HealStack.same-refl Rs)
-              (λ x c. keepsB x (let z = rw (total-append (λ z. Rattle.forest.specs.Lists.once (eqb x z)) (nums L) (numbers Rs)) at c in omega arith))
-              (heal-some leaf-law (emptyNode inner (length Rs)) i L Rs (empty-up inner-law (length Rs)) sB b fill once upB place path some-xs stackedC rowB))
+              let same-line = HealStack.line-same (parent (sizes L) i) (removeAt (offset (sizes L) i)) L (HealStep.front-cut (offset (sizes L) i) (itemsAt L (parent (sizes L) i)) (eqb-false _ _ e)) in
+              record {
+                rows = Rs;
+                store = sB .st;
+                is = simp (nz, place, e);
+                shape = HealStack.same-refl Rs;
+                keeps = λ x c. keepsB x (let z = rw (count-append x (nums L) (numbers Rs)) at c in omega arith);
+                up = upB;
+                left = alive two (HealStack.stacked-line L C Rs (HealStack.alike-same (sym same-line)) stacked) rowB;
+              }
         ]
 
     -- the leaf is empty, and the tree is not
-    keeps-none : length (itemsAt L (parent (sizes L) i)) ≡ 1 → 2 ≤ sum (sizes L) → Mended enc M (lost M L) i L Rs s (removeAtCursor leaf cap inner key s (length Rs))
-    keeps-none one two =
+    front-none : length (itemsAt L (parent (sizes L) i)) ≡ 1 → 2 ≤ sum (sizes L) → Front enc L i Rs s (fronted leaf cap inner key sB (length Rs))
+    front-none one two =
         let w : leaf .cut (s .st (s .ns (length Rs))) (s .ps (length Rs)) ≡ pad 16 [] = rw words (leaf-law .cut-none (itemsAt L (parent (sizes L) i)) (s .ps (length Rs)) one) in
         let wB : sB .st (s .ns (length Rs)) ≡ pad 16 [] = HealMem.put-same (s .st) (s .ns (length Rs)) (leaf .cut (s .st (s .ns (length Rs))) (s .ps (length Rs))) ∙ w in
         let z : eqb (leaf .entries (sB .st (s .ns (length Rs)))) 0 ≡ true = rw (wB, leaf-law .entries-none) refl in
-        let f : fronted leaf cap inner key sB (length Rs) ≡ sB = simp z in
-        rw f (convert M (lost M L) Rs (sB .st) (healLevel leaf cap (emptyNode inner (length Rs)) (length Rs) sB) (HealStack.same-refl Rs)
-        (λ x c. keepsB x (let z = rw (total-append (λ z. Rattle.forest.specs.Lists.once (eqb x z)) (nums L) (numbers Rs)) at c in omega arith))
-        (heal-none leaf-law (emptyNode inner (length Rs)) i L Rs (empty-up inner-law (length Rs)) sB b fill once upB place path stacked (omega (arith, sum-L)) two wB
-        (HealMem.frame enc (s .st) (s .ns (length Rs)) (leaf .cut (s .st (s .ns (length Rs))) (s .ps (length Rs))) (removeAt (parent (sizes L) i) L)
-        (rw name (HealMem.gone enc L (parent (sizes L) i) par-in (λ x. omega (arith, apart x)))) (HealMem.holds-remove enc (s .st) L (parent (sizes L) i) row))))
-
-    -- REMOVE AT A CURSOR, unless the pair is the only one
-    pub removed : 2 ≤ sum (sizes L) → Mended enc M (lost M L) i L Rs s (removeAtCursor leaf cap inner key s (length Rs))
-    removed two = elim (test (ltb 1 (length (itemsAt L (parent (sizes L) i))))) [
-      | is e ↦ keeps-some (ltb-true _ _ e)
-      | isnt e ↦ keeps-none (let z = ltb-false 1 (length (itemsAt L (parent (sizes L) i))) e in omega (arith, off-in)) two
-    ]
-
-    -- heal_level may be called
-    front-some : 2 ≤ length (itemsAt L (parent (sizes L) i)) → (N : ℕ) → Within N (nums L ++ numbers Rs) (s .free) → Wounded enc cap low N (length Rs) (fronted leaf cap inner key sB (length Rs))
-    front-some two N within =
-        let w : leaf .cut (s .st (s .ns (length Rs))) (s .ps (length Rs)) ≡ enc (removeAt (offset (sizes L) i) (itemsAt L (parent (sizes L) i))) =
-        rw (words, place) (leaf-law .cut-is (itemsAt L (parent (sizes L) i)) (offset (sizes L) i) off-in two few) in
-        let rowB : HealMem.Holds enc (sB .st) C =
-        rw name (HealMem.holds-upd enc (s .st) L (parent (sizes L) i) (removeAt (offset (sizes L) i)) (leaf .cut (s .st (HealRows.numAt L (parent (sizes L) i))) (s .ps (length Rs))) par-in (λ x. omega (arith, apart x)) (rw name at w) row) in
-        let wB : sB .st (s .ns (length Rs)) ≡ enc (removeAt (offset (sizes L) i) (itemsAt L (parent (sizes L) i))) =
-        HealMem.put-same (s .st) (s .ns (length Rs)) (leaf .cut (s .st (s .ns (length Rs))) (s .ps (length Rs))) ∙ w in
-        let some-xs : 1 ≤ length (removeAt (offset (sizes L) i) (itemsAt L (parent (sizes L) i))) = omega (arith, sum-L) in
-        let en : leaf .entries (sB .st (s .ns (length Rs))) ≡ length (removeAt (offset (sizes L) i) (itemsAt L (parent (sizes L) i))) = ap (leaf .entries) wB ∙ leaf-law .entries-is (removeAt (offset (sizes L) i) (itemsAt L (parent (sizes L) i))) some-xs in
-        let nz : eqb (leaf .entries (sB .st (s .ns (length Rs)))) 0 ≡ false = ne-eqb (leaf .entries (sB .st (s .ns (length Rs)))) 0 (omega arith) in
-        elim (test (eqb (offset (sizes L) i) 0)) [
-          | is e ↦
-              let kk : key (sB .st (s .ns (length Rs))) ≡ front (removeAt (offset (sizes L) i) (itemsAt L (parent (sizes L) i))) = ap key wB ∙ key-is (removeAt (offset (sizes L) i) (itemsAt L (parent (sizes L) i))) some-xs in
-              let f : fronted leaf cap inner key sB (length Rs) ≡ stored s st2 =
-              (let e2 : eqb (s .ps (length Rs)) 0 ≡ true = rw place e in simp (nz, e2) (ap (λ (x : ℕ). stored s (HealPath.leftSet (sB .st) (s .ns) (s .ps) (length Rs) x)) kk)) in
-              let keepsF : HealMem.Keeps (sB .st) st2 (numbers Rs) = HealPath.leftSet-keeps (sB .st) (s .ns) (s .ps) L (parent (sizes L) i) k Rs par-in stacked upB path in
-              let rowF : HealMem.Holds enc st2 C = HealMem.holds-apart enc (sB .st) st2 (numbers Rs) C keepsF (λ x. rw (HealRows.upd-nums (parent (sizes L) i) (removeAt (offset (sizes L) i)) L) (omega (arith, apart x))) rowB in
-              let stackedC : HealStack.Stacked C Rs1 =
-              HealStack.setKey-stacked L C Rs (parent (sizes L) i) k par-in (HealStack.alike-same (sym (HealRows.upd-line (parent (sizes L) i) (removeAt (offset (sizes L) i)) L))) stacked in
-              let shape = HealStack.setKey-shape (parent (sizes L) i) k Rs in
-              let ln : length Rs1 ≡ length Rs = HealNext.shape-length shape in
-              rw f (record {
-                row = L;
-                at = i;
-                rows = Rs1;
-                level = ln;
-                inside = b;
-                fill = fill;
-                within = rw (HealNext.shape-numbers shape) within;
-                up = HealPath.leftSet-holds (sB .st) (s .ns) (s .ps) L (parent (sizes L) i) k Rs par-in stacked (λ x. omega (arith, apart x)) upB path;
-                place = rw ln place;
-                path = HealNext.path-shape L L (parent (sizes L) i) (s .ns) (s .ps) refl (HealStack.same-sym shape) path;
-                left = alive two stackedC rowF;
-              })
-          | isnt e ↦
-              let f : fronted leaf cap inner key sB (length Rs) ≡ sB = simp (nz, place, e) in
-              let stackedC : HealStack.Stacked C Rs =
-              HealStack.stacked-line L C Rs (HealStack.alike-same (sym (HealStack.line-keep (parent (sizes L) i) (removeAt (offset (sizes L) i)) L par-in (HealStep.front-cut (offset (sizes L) i) (itemsAt L (parent (sizes L) i)) (eqb-false _ _ e))))) stacked in
-              rw f (record { row = L; at = i; rows = Rs; level = refl; inside = b; fill = fill; within = within; up = upB; place = place; path = path; left = alive two stackedC rowB })
-        ]
-
-    front-none : length (itemsAt L (parent (sizes L) i)) ≡ 1 → 2 ≤ sum (sizes L) → (N : ℕ) → Within N (nums L ++ numbers Rs) (s .free) → Wounded enc cap low N (length Rs) (fronted leaf cap inner key sB (length Rs))
-    front-none one two N within =
-        let w : leaf .cut (s .st (s .ns (length Rs))) (s .ps (length Rs)) ≡ pad 16 [] = rw words (leaf-law .cut-none (itemsAt L (parent (sizes L) i)) (s .ps (length Rs)) one) in
-        let wB : sB .st (s .ns (length Rs)) ≡ pad 16 [] = HealMem.put-same (s .st) (s .ns (length Rs)) (leaf .cut (s .st (s .ns (length Rs))) (s .ps (length Rs))) ∙ w in
-        let z : eqb (leaf .entries (sB .st (s .ns (length Rs)))) 0 ≡ true = rw (wB, leaf-law .entries-none) refl in
-        let f : fronted leaf cap inner key sB (length Rs) ≡ sB = simp z in
-        rw f (record {
-          row = L;
-          at = i;
+        record {
           rows = Rs;
-          level = refl;
-          inside = b;
-          fill = fill;
-          within = within;
+          store = sB .st;
+          is = simp z;
+          shape = HealStack.same-refl Rs;
+          keeps = λ x c. keepsB x (let z = rw (count-append x (nums L) (numbers Rs)) at c in omega arith);
           up = upB;
-          place = place;
-          path = path;
           left = dead one stacked two wB
               (HealMem.frame enc (s .st) (s .ns (length Rs)) (leaf .cut (s .st (s .ns (length Rs))) (s .ps (length Rs))) (removeAt (parent (sizes L) i) L)
               (rw name (HealMem.gone enc L (parent (sizes L) i) par-in (λ x. omega (arith, apart x)))) (HealMem.holds-remove enc (s .st) L (parent (sizes L) i) row));
-        })
+        }
 
-    pub front-wounded : 2 ≤ sum (sizes L) → (N : ℕ) → Within N (nums L ++ numbers Rs) (s .free) → Wounded enc cap low N (length Rs) (fronted leaf cap inner key sB (length Rs))
-    front-wounded two N within = elim (test (ltb 1 (length (itemsAt L (parent (sizes L) i))))) [
-      | is e ↦ front-some (ltb-true _ _ e) N within
-      | isnt e ↦ front-none (let z = ltb-false 1 (length (itemsAt L (parent (sizes L) i))) e in omega (arith, off-in)) two N within
+    front-set : 2 ≤ sum (sizes L) → Front enc L i Rs s (fronted leaf cap inner key sB (length Rs))
+    front-set two = elim (test (ltb 1 (length (itemsAt L (parent (sizes L) i))))) [
+      | is e ↦ front-some (ltb-true _ _ e)
+      | isnt e ↦ front-none (let z = ltb-false 1 (length (itemsAt L (parent (sizes L) i))) e in omega (arith, off-in)) two
     ]
+
+    -- REMOVE AT A CURSOR, unless the pair is the only one
+    pub removed : 2 ≤ sum (sizes L) → Mended enc M (lost M L) i L Rs s (removeAtCursor leaf cap inner key s (length Rs))
+    removed two =
+        let f = front-set two in
+        let ln : length (f .rows) ≡ length Rs = HealNext.shape-length (f .shape) in
+        let up = emptyNode inner (length Rs) in
+        let ups : Heals (emptyNode inner (length Rs)) (length (f .rows)) = rw ln (empty-up inner-law (length Rs)) in
+        let each-once = rw (← (HealNext.shape-numbers (f .shape))) at once in
+        let path1 = HealNext.path-shape L L (parent (sizes L) i) (s .ns) (s .ps) refl (HealStack.same-sym (f .shape)) path in
+        rw (f .is) (convert M (lost M L) (f .rows) (f .store) (healLevel leaf cap up (length Rs) (stored s (f .store))) (f .shape) (f .keeps)
+        (subst (λ (n : ℕ). Mended enc M (lost M L) i L (f .rows) (stored s (f .store)) (healLevel leaf cap up n (stored s (f .store)))) ln (elim (f .left) [
+          | alive more st row ↦ heal-some leaf-law up i L (f .rows) ups (stored s (f .store)) b fill each-once (f .up) (rw ln place) path1 (omega (arith, sum-L)) st row
+          | dead one st big zeros rest ↦ heal-none leaf-law up i L (f .rows) ups (stored s (f .store)) b fill each-once (f .up) (rw ln place) path1 st (omega (arith, sum-L)) big zeros rest
+        ])))
+
+    -- heal_level may be called
+    pub front-wounded : 2 ≤ sum (sizes L) → (N : ℕ) → Within N (nums L ++ numbers Rs) (s .free) → Wounded enc cap low N (length Rs) (fronted leaf cap inner key sB (length Rs))
+    front-wounded two N within =
+        let f = front-set two in
+        let ln : length (f .rows) ≡ length Rs = HealNext.shape-length (f .shape) in
+        rw (f .is) (record {
+          row = L;
+          at = i;
+          rows = f .rows;
+          level = ln;
+          inside = b;
+          fill = fill;
+          within = rw (HealNext.shape-numbers (f .shape)) within;
+          up = f .up;
+          place = rw ln place;
+          path = HealNext.path-shape L L (parent (sizes L) i) (s .ns) (s .ps) refl (HealStack.same-sym (f .shape)) path;
+          left = f .left;
+        })
 
     -- the leaf's words are those of the cut
     pub front-words : (fronted leaf cap inner key sB (length Rs)) .st (s .ns (length Rs)) ≡ sB .st (s .ns (length Rs))

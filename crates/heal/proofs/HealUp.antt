@@ -1,7 +1,7 @@
 -- PROOFS. Healing upward: empty_node cuts the parent, which heals in turn
 use mathlib.Core.Path.{_≡_, refl, sym, ap, _∙_, subst}
 use mathlib.Core.List.{List, [], _∷_, _++_}
-use mathlib.Core.Bool.{Bool, true, false, cond}
+use mathlib.Core.Bool.{false}
 use mathlib.Core.Option.{some}
 use Prim.Native.Nat.{ℕ, zero, suc, _+_, _-_, _≤_, _<_}
 use native.Mathlib.Omega.{arith}
@@ -11,11 +11,11 @@ use borrow.Author.Tests.{ltb-true, ltb-false, eqb-true, eq-eqb, ne-eqb}
 use Rattle.forest.specs.Lists.{removeAt, sum, once, count, pad, parent, offset}
 use Rattle.forest.specs.Pairs.{Item}
 use Rattle.forest.specs.Rows.{Row, front, nums, sizes, joined, line, itemsAt}
-use Rattle.forest.specs.Trees.{numbers, dropAt, dropUp, lost}
+use Rattle.forest.specs.Trees.{numbers, dropAt, lost}
 use Rattle.forest.specs.Pools.{innerWords}
-use Rattle.forest.proofs.ListLaws.{is, isnt, test, total-append, offset-lt, parent-start, length-removeAt}
+use Rattle.forest.proofs.ListLaws.{is, isnt, test, offset-lt, parent-start, length-removeAt}
 use Rattle.forest.proofs.RowLaws.{length-line, dropRow-joined, dropRow-fill}
-use Rattle.crit.specs.States.{State, lives, nodeAt, settled}
+use Rattle.crit.specs.States.{State, lives, nodeAt, throughRight}
 use Rattle.heal.specs.Steps.{Ops, freeNode, healLevel, parentCut, emptyFrom, emptyWith, emptyNode}
 use Rattle.heal.specs.Wounds.{Left, alive, dead, Wounded, Within}
 use Rattle.crit.proofs.HealRows
@@ -25,7 +25,11 @@ use Rattle.crit.proofs.HealPath
 use Rattle.crit.proofs.HealNext
 use Rattle.heal.proofs.HealStep
 pub use Rattle.heal.proofs.HealShape.{Lawful, Where, here, past, Exit, Heals, Mended, dropUp-shape, freedUp-shape}
-pub use Rattle.heal.proofs.HealLevel.{heal-some, heal-none}
+pub use Rattle.heal.proofs.HealLevel.{heal-some}
+pub use Rattle.heal.proofs.HealNone.{heal-none}
+use Rattle.forest.proofs.WordLaws.{count-append}
+use Rattle.forest.proofs.TowerLaws.{went-length}
+use Rattle.heal.proofs.HealCut.{cut-left}
 
 -- One step of empty_node: the parent is cut and heals
 module _ {o : Ops} (law : Lawful o innerWords 8 4) (up : State → State) (R R′ : Row) (j : ℕ) (S : Row) (Ss : List Row)
@@ -48,10 +52,10 @@ module _ {o : Ops} (law : Lawful o innerWords 8 4) (up : State → State) (R R�
   sA = freeNode s (HealRows.numAt R j)
 
   counts : (x : ℕ) → Rattle.forest.specs.Lists.once (eqb x (HealRows.numAt R j)) + (count x (nums S) + count x (numbers Ss)) ≤ 1
-  counts x = rw (total-append (λ z. Rattle.forest.specs.Lists.once (eqb x z)) (nums S) (numbers Ss)) at (once x)
+  counts x = rw (count-append x (nums S) (numbers Ss)) at (once x)
 
   onceS : HealMem.Once (nums S ++ numbers Ss)
-  onceS x = rw (total-append (λ z. Rattle.forest.specs.Lists.once (eqb x z)) (nums S) (numbers Ss)) (omega (arith, counts x))
+  onceS x = rw (count-append x (nums S) (numbers Ss)) (omega (arith, counts x))
 
   keepsA : HealMem.Keeps (s .st) (sA .st) (HealRows.numAt R j ∷ [])
   keepsA = HealMem.put-keeps (s .st) (HealRows.numAt R j) (pad 16 []) (HealRows.numAt R j ∷ []) (simp (eq-eqb (HealRows.numAt R j) (HealRows.numAt R j) refl) (omega arith))
@@ -110,10 +114,10 @@ module _ {o : Ops} (law : Lawful o innerWords 8 4) (up : State → State) (R R�
   mended = elim remains [
     | alive more st row ↦
         heal-some law up j S Ss ih sB b-in (stacked .1) onceS huB (p .1) (p .2)
-        (omega (arith, length-removeAt (offset (sizes S) j) (itemsAt S (parent (sizes S) j)) (at-S .off))) st row
+        (omega (arith, cut-left j S b-in)) st row
     | dead one st big zeros rest ↦
         heal-none law up j S Ss ih sB b-in (stacked .1) onceS huB (p .1) (p .2) st
-        (omega (arith, length-removeAt (offset (sizes S) j) (itemsAt S (parent (sizes S) j)) (at-S .off))) big zeros rest
+        (omega (arith, cut-left j S b-in)) big zeros rest
   ]
 
   abbrev sC : State
@@ -145,15 +149,7 @@ module _ {o : Ops} (law : Lawful o innerWords 8 4) (up : State → State) (R R�
       shift (suc j) (x ∷ xs) = shift j xs
 
   rows-length : length (mended .rows) ≡ length Ss
-  rows-length = HealNext.shape-length (mended .shape) ∙ either (lost (dropAt j S) S)
-    where
-      up-length : (i : ℕ) (Ss : List Row) → length (dropUp i Ss) ≡ length Ss
-      up-length i [] = refl
-      up-length i (S ∷ Ss) = elim (test (lost (dropAt i S) S)) [ is e ↦ simp e (ap suc (up-length (parent (sizes S) i) Ss)) | isnt e ↦ simp e ]
-
-      either : (b : Bool) → length (cond b (dropUp (parent (sizes S) j) Ss) Ss) ≡ length Ss
-      either true = up-length (parent (sizes S) j) Ss
-      either false = refl
+  rows-length = HealNext.shape-length (mended .shape) ∙ went-length (lost (dropAt j S) S) (parent (sizes S) j) Ss
 
   -- the state at the end has the words of sC, and another cursor
   leaves : (t : State) → t .st ≡ sC .st → t .free ≡ sC .free → ((x : ℕ) → suc (length Ss) < x → t .ns x ≡ sC .ns x) → t .ps ≡ sC .ps →
@@ -165,16 +161,16 @@ module _ {o : Ops} (law : Lawful o innerWords 8 4) (up : State → State) (R R�
     up = rw a (mended .row, mended .up);
     keeps = λ x c.
         let c2 : Rattle.forest.specs.Lists.once (eqb x (HealRows.numAt R j)) + (count x (nums S) + count x (numbers Ss)) ≡ 0 =
-        rw (total-append (λ z. Rattle.forest.specs.Lists.once (eqb x z)) (nums S) (numbers Ss)) at c in
-        ap (λ (st : HealMem.Store). st x) a ∙ mended .keeps x (rw (total-append (λ z. Rattle.forest.specs.Lists.once (eqb x z)) (nums S) (numbers Ss)) (omega arith)) ∙ keepsB x (omega arith) ∙ keepsA x (omega arith);
+        rw (count-append x (nums S) (numbers Ss)) at c in
+        ap (λ (st : HealMem.Store). st x) a ∙ mended .keeps x (rw (count-append x (nums S) (numbers Ss)) (omega arith)) ∙ keepsB x (omega arith) ∙ keepsA x (omega arith);
     zeros = λ x c d.
-        let c2 : 1 ≤ Rattle.forest.specs.Lists.once (eqb x (HealRows.numAt R j)) + (count x (nums S) + count x (numbers Ss)) = rw (total-append (λ z. Rattle.forest.specs.Lists.once (eqb x z)) (nums S) (numbers Ss)) at c in
-        let d2 : count x (nums (dropAt j S)) + count x (numbers (mended .rows)) ≡ 0 = rw (total-append (λ z. Rattle.forest.specs.Lists.once (eqb x z)) (nums (dropAt j S)) (numbers (mended .rows))) at d in
+        let c2 : 1 ≤ Rattle.forest.specs.Lists.once (eqb x (HealRows.numAt R j)) + (count x (nums S) + count x (numbers Ss)) = rw (count-append x (nums S) (numbers Ss)) at c in
+        let d2 : count x (nums (dropAt j S)) + count x (numbers (mended .rows)) ≡ 0 = rw (count-append x (nums (dropAt j S)) (numbers (mended .rows))) at d in
         ap (λ (st : HealMem.Store). st x) a ∙ elim (test (eqb x (HealRows.numAt R j))) [
           | is e ↦
               let q : x ≡ HealRows.numAt R j = eqb-true _ _ e in
               let c3 : 1 + (count x (nums S) + count x (numbers Ss)) ≤ 1 = simp e at (counts x) in
-              mended .keeps x (rw (total-append (λ z. Rattle.forest.specs.Lists.once (eqb x z)) (nums S) (numbers Ss)) (omega arith)) ∙ keepsB x (omega arith) ∙ simp e
+              mended .keeps x (rw (count-append x (nums S) (numbers Ss)) (omega arith)) ∙ keepsB x (omega arith) ∙ simp e
           | isnt e ↦ let c3 : 1 ≤ 0 + (count x (nums S) + count x (numbers Ss)) = simp e at c2 in mended .zeros x (omega arith) d2
         ];
     free = f ∙ rw (← (HealNext.numAt-nums S (parent (sizes S) j))) (mended .free);
@@ -183,12 +179,12 @@ module _ {o : Ops} (law : Lawful o innerWords 8 4) (up : State → State) (R R�
     stands = w;
   }
 
-  step : Exit R′ j (HealRows.numAt R j) (S ∷ Ss) s (settled (HealPath.rightSibling (sA .st) (s .ns) (s .ps) (suc (length Ss))) (suc (length Ss)) sC)
+  step : Exit R′ j (HealRows.numAt R j) (S ∷ Ss) s (throughRight (HealPath.rightSibling (sA .st) (s .ns) (s .ps) (suc (length Ss))) (suc (length Ss)) sC)
   step = elim (test (ltb (suc j) (length R))) [
     | is e ↦
         let q = ltb-true (suc j) (length R) e in
         let r : HealPath.rightSibling (sA .st) (s .ns) (s .ps) (suc (length Ss)) ≡ some (front (itemsAt R (suc j)), HealRows.numAt R (suc j)) =
-        HealPath.right-is (sA .st) (s .ns) (s .ps) (0, 0) R j (S ∷ Ss) q stacked huA p ∙ ap some (HealRows.line-at (0, 0) R (suc j) q) in
+        HealPath.right-is (sA .st) (s .ns) (s .ps) R j (S ∷ Ss) q stacked huA p ∙ ap some (HealRows.line-at (0, 0) R (suc j) q) in
         rw r (leaves (nodeAt sC (suc (length Ss)) (HealRows.numAt R (suc j))) refl refl (λ x d. simp (ne-eqb x (suc (length Ss)) (omega arith))) refl
         (elim (mended .stands) [
           | here a w v ↦ here (omega (arith, length-R′)) (

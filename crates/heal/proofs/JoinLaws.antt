@@ -21,12 +21,10 @@ use Rattle.node.specs.declared.Removed.{Removed}
 use Rattle.node.specs.declared.Removed.the-variants.{Underflow}
 use Rattle.node.proofs.OnItems.{balance-flag, balance-fits, balance-over}
 use Rattle.crit.specs.States.{rightSibling, rightSet, handKey, stored}
-use Rattle.crit.specs.Asks.{Mem, moved, Spelt, Way, Leaves, nearOf}
-use Rattle.crit.specs.declared.Near.{Near}
+use Rattle.crit.specs.Asks.{Mem, moved, Spelt, Way, Leaves}
 use Rattle.heal.specs.Cycle.{Kind, left, fits, gathered, shared, stayed, AskHeal, AskJoin, Joined, Cuts}
 use Rattle.crit.proofs.HealMem
-use Rattle.crit.proofs.SpeltLaws.{spelt-block, spelt-placed, spelt-store, same-count}
-use Rattle.crit.proofs.RightLaws.{near-some}
+use Rattle.crit.proofs.SpeltLaws.{spelt-block, spelt-placed, spelt-store, spelt-level, same-count}
 use Rattle.crit.proofs.NextLaws.{spelt-off}
 use Rattle.heal.proofs.HealUp.{Lawful}
 use Rattle.heal.proofs.WoundLaws.{Held, held-here, held-mate}
@@ -59,7 +57,7 @@ module _ (k : Kind) (law : Lawful (k .ops) (k .words) (k .cap) (k .low)) (sixtee
     leaves = λ m sp.
         let n = sp .nodes l d in
         let a : getD (c .places) l 0 ≡ m .s .ps l = sp .places l d in
-        let b : k .words xs ≡ m .s .st (m .s .ns l) = sym w ∙ spelt-block sp (getD (c .nodes) l 0) lo (rw (← (same-count sp0 sp)) hi) ∙ ap (m .s .st) n in
+        let b : k .words xs ≡ m .s .st (m .s .ns l) = sym w ∙ spelt-level sp l d lo (rw (← (same-count sp0 sp)) hi) in
         subst (λ (x : ℕ × List ℕ). Spelt vs t c (moved m (stored (m .s) (put (m .s .st) (x .0) (x .1))))) (λ i. (n i, k .ops .cut (b i) (a i)))
         (rw v (spelt-store sp (getD (c .nodes) l 0) lo (rw (← (same-count sp0 sp)) hi) (k .ops .cut (k .words xs) (getD (c .places) l 0)) (cut-length xs (getD (c .places) l 0) p f)));
     says = λ m sp.
@@ -86,7 +84,7 @@ module _ (k : Kind) (law : Lawful (k .ops) (k .words) (k .cap) (k .low)) (sixtee
     here-block = rw name (spelt-block (a .spelt) (a .mem .s .ns level) (here .some) (here .few) ∙ here .words)
 
     here-of : (m : Mem) → Spelt ws t c m → block ws t (getD (c .nodes) level 0) ≡ m .s .st (m .s .ns level)
-    here-of m sp = spelt-block sp (getD (c .nodes) level 0) (rw name (here .some)) (rw (name, ← (same-count (a .spelt) sp)) (here .few)) ∙ ap (m .s .st) (sp .nodes level (a .deep))
+    here-of m sp = spelt-level sp level (a .deep) (rw name (here .some)) (rw (name, ← (same-count (a .spelt) sp)) (here .few))
 
     pub here-words : (w : List ℕ) → w ≡ block ws t (getD (c .nodes) level 0) → w ≡ k .words (here .items)
     here-words w e = e ∙ here-block
@@ -115,53 +113,53 @@ module _ (k : Kind) (law : Lawful (k .ops) (k .words) (k .cap) (k .low)) (sixtee
     }
 
   -- two neighbours
-  module _ {ws : List ℕ} {t : ℕ} {c : Cursor} {level : ℕ} {near : Near} (j : AskJoin k ws t c level near) where
-    right : rightSibling (j .heal .mem .s .st) (j .heal .mem .s .ns) (j .heal .mem .s .ps) level ≡ some (near .key, near .node)
-    right = sym (j .finds .run (j .heal .mem) (j .heal .spelt)) ∙ near-some near (j .there)
+  module _ {ws : List ℕ} {t : ℕ} {c : Cursor} {level key node : ℕ} (j : AskJoin k ws t c level key node) where
+    right : rightSibling (j .heal .mem .s .st) (j .heal .mem .s .ns) (j .heal .mem .s .ps) level ≡ some (key, node)
+    right = sym (j .finds .run (j .heal .mem) (j .heal .spelt))
 
-    pub mate : Held (k .words) (k .cap) (j .heal .mem .count) (j .heal .ready .row) (j .heal .mem .s .st) (near .node)
-    mate = held-mate law (j .heal .mem .count) level (j .heal .mem .s) (j .heal .ready) (near .key, near .node) (some-left k law (j .heal) refl) right
+    pub mate : Held (k .words) (k .cap) (j .heal .mem .count) (j .heal .ready .row) (j .heal .mem .s .st) node
+    mate = held-mate law (j .heal .mem .count) level (j .heal .mem .s) (j .heal .ready) (key, node) (some-left k law (j .heal) refl) right
 
-    pub mate-placed : Placed ws t (near .node)
-    mate-placed = spelt-placed (j .heal .spelt) (near .node) (mate .some) (mate .few)
+    pub mate-placed : Placed ws t node
+    mate-placed = spelt-placed (j .heal .spelt) node (mate .some) (mate .few)
 
-    pub mate-words : (v : List ℕ) → v ≡ block ws t (near .node) → v ≡ k .words (mate .items)
-    mate-words v e = e ∙ spelt-block (j .heal .spelt) (near .node) (mate .some) (mate .few) ∙ mate .words
+    pub mate-words : (v : List ℕ) → v ≡ block ws t node → v ≡ k .words (mate .items)
+    mate-words v e = e ∙ spelt-block (j .heal .spelt) node (mate .some) (mate .few) ∙ mate .words
 
-    mate-of : (m : Mem) → Spelt ws t c m → block ws t (near .node) ≡ m .s .st (near .node)
-    mate-of m sp = spelt-block sp (near .node) (mate .some) (rw (← (same-count (j .heal .spelt) sp)) (mate .few))
+    mate-of : (m : Mem) → Spelt ws t c m → block ws t node ≡ m .s .st node
+    mate-of m sp = spelt-block sp node (mate .some) (rw (← (same-count (j .heal .spelt) sp)) (mate .few))
 
-    hi-of : (m : Mem) → Spelt ws t c m → near .node ≤ m .count
+    hi-of : (m : Mem) → Spelt ws t c m → node ≤ m .count
     hi-of m sp = rw (← (same-count (j .heal .spelt) sp)) (mate .few)
 
     -- storing the neighbour's words, and both
-    module _ (w v : List ℕ) (ew : w ≡ block ws t (getD (c .nodes) level 0)) (ev : v ≡ block ws t (near .node)) (us : List Item) (b : Balanced) (eb : b ≡ balanceOf (k .words) (k .cap) us)
+    module _ (w v : List ℕ) (ew : w ≡ block ws t (getD (c .nodes) level 0)) (ev : v ≡ block ws t node) (us : List Item) (b : Balanced) (eb : b ≡ balanceOf (k .words) (k .cap) us)
         (size : length us ≡ k .ops .entries w + k .ops .entries v)
-        (eg : k .ops .gather w v (near .key) ≡ k .words us) (el : k .ops .left w v (near .key) ≡ k .words (take (keep us) us))
-        (er : k .ops .right w v (near .key) ≡ k .words (drop (keep us) us)) (em : k .ops .mid w v (near .key) ≡ front (drop (keep us) us)) where
+        (eg : k .ops .gather w v key ≡ k .words us) (el : k .ops .left w v key ≡ k .words (take (keep us) us))
+        (er : k .ops .right w v key ≡ k .words (drop (keep us) us)) (em : k .ops .mid w v key ≡ front (drop (keep us) us)) where
       flag : b .all ≡ leb (length us) (k .cap)
       flag = ap (λ (x : Balanced). x .all) eb ∙ balance-flag (k .words) (k .cap) us
 
-      fits-of : (m : Mem) (x : Item) → Spelt ws t c m → nearOf near ≡ some x → leb (length us) (k .cap) ≡ fits k (m .s) level x
+      fits-of : (m : Mem) (x : Item) → Spelt ws t c m → rightSibling (m .s .st) (m .s .ns) (m .s .ps) level ≡ some x → leb (length us) (k .cap) ≡ fits k (m .s) level x
       fits-of m x sp e =
-          let q : _≡_ {A = Item} (near .key, near .node) x = cc (near-some near (j .there), e) in
+          let q : _≡_ {A = Item} (key, node) x = cc (j .finds .run m sp, e) in
           subst (λ (x : Item). leb (length us) (k .cap) ≡ fits k (m .s) level x) q
           (ap (λ (n : ℕ). leb n (k .cap)) (size ∙ rw (ew ∙ here-of (j .heal) m sp, ev ∙ mate-of m sp)))
 
-      full : b .all ≡ true → b .right ≡ k .ops .gather w v (near .key)
+      full : b .all ≡ true → b .right ≡ k .ops .gather w v key
       full h = ap (λ (x : Balanced). x .right) (eb ∙ balance-fits (k .words) (k .cap) us (borrow.Author.Tests.leb-true _ _ (sym flag ∙ h))) ∙ sym eg
 
       module _ (h : b .all ≡ false) where
         parts : b ≡ record { all = false; left = k .words (take (keep us) us); right = k .words (drop (keep us) us); key = front (drop (keep us) us) }
         parts = eb ∙ balance-over (k .words) (k .cap) us (borrow.Author.Tests.leb-false _ _ (sym flag ∙ h))
 
-        half-left : b .left ≡ k .ops .left w v (near .key)
+        half-left : b .left ≡ k .ops .left w v key
         half-left = ap (λ (x : Balanced). x .left) parts ∙ sym el
 
-        half-right : b .right ≡ k .ops .right w v (near .key)
+        half-right : b .right ≡ k .ops .right w v key
         half-right = ap (λ (x : Balanced). x .right) parts ∙ sym er
 
-        half-key : b .key ≡ k .ops .mid w v (near .key)
+        half-key : b .key ≡ k .ops .mid w v key
         half-key = ap (λ (x : Balanced). x .key) parts ∙ sym em
 
       right-length : length (b .right) ≡ 16
@@ -171,29 +169,29 @@ module _ (k : Kind) (law : Lawful (k .ops) (k .words) (k .cap) (k .low)) (sixtee
       ]
 
       -- all to the right
-      module _ (vs : List ℕ) (e1 : vs ≡ withBlock ws t (near .node) (b .right)) where
-        stored-right : (m : Mem) → Spelt ws t c m → Spelt vs t c (moved m (stored (m .s) (put (m .s .st) (near .node) (b .right))))
-        stored-right m sp = rw e1 (spelt-store sp (near .node) (mate .some) (hi-of m sp) (b .right) right-length)
+      module _ (vs : List ℕ) (e1 : vs ≡ withBlock ws t node (b .right)) where
+        stored-right : (m : Mem) → Spelt ws t c m → Spelt vs t c (moved m (stored (m .s) (put (m .s .st) node (b .right))))
+        stored-right m sp = rw e1 (spelt-store sp node (mate .some) (hi-of m sp) (b .right) right-length)
 
         pub way-gathered : Way vs t c level
         way-gathered =
-            heal-way-put k law (j .heal) (put (j .heal .mem .s .st) (near .node) (b .right))
-            (HealMem.put-keeps (j .heal .mem .s .st) (near .node) (b .right) (nums (j .heal .ready .row)) (mate .inside)) (stored-right (j .heal .mem) (j .heal .spelt))
+            heal-way-put k law (j .heal) (put (j .heal .mem .s .st) node (b .right))
+            (HealMem.put-keeps (j .heal .mem .s .st) node (b .right) (nums (j .heal .ready .row)) (mate .inside)) (stored-right (j .heal .mem) (j .heal .spelt))
 
-        pub joined-all : {us′ : List ℕ} → b .all ≡ true → Leaves (λ s. stored s (handKey (s .st) (s .ns) (s .ps) level)) vs us′ t c c → Joined k ws us′ t c level near true
+        pub joined-all : {us′ : List ℕ} → b .all ≡ true → Leaves (λ s. stored s (handKey (s .st) (s .ns) (s .ps) level)) vs us′ t c c → Joined k ws us′ t c level true
         joined-all {us′} h f = record {
           all-is = λ m x sp e. sym h ∙ flag ∙ fits-of m x sp e;
           gather-all = λ m x sp e q.
-              let i : _≡_ {A = Item} (near .key, near .node) x = cc (near-some near (j .there), e) in
-              let g : b .right ≡ k .ops .gather (m .s .st (m .s .ns level)) (m .s .st (near .node)) (near .key) = full h ∙ rw (ew ∙ here-of (j .heal) m sp, ev ∙ mate-of m sp) in
+              let i : _≡_ {A = Item} (key, node) x = cc (j .finds .run m sp, e) in
+              let g : b .right ≡ k .ops .gather (m .s .st (m .s .ns level)) (m .s .st node) key = full h ∙ rw (ew ∙ here-of (j .heal) m sp, ev ∙ mate-of m sp) in
               subst (λ (x : Item). Spelt us′ t c (moved m (gathered k (m .s) level x))) i
-              (subst (λ (w : List ℕ). Spelt us′ t c (moved m (stored (m .s) (handKey (put (m .s .st) (near .node) w) (m .s .ns) (m .s .ps) level)))) g
-              (f .run (moved m (stored (m .s) (put (m .s .st) (near .node) (b .right)))) (stored-right m sp)));
+              (subst (λ (w : List ℕ). Spelt us′ t c (moved m (stored (m .s) (handKey (put (m .s .st) node w) (m .s .ns) (m .s .ps) level)))) g
+              (f .run (moved m (stored (m .s) (put (m .s .st) node (b .right)))) (stored-right m sp)));
           share-some = λ m x sp e q. absurd (true≢false q);
         }
 
       -- they share
-      module _ (h : b .all ≡ false) (vs us′ : List ℕ) (e1 : vs ≡ withBlock ws t (getD (c .nodes) level 0) (b .left)) (e2 : us′ ≡ withBlock vs t (near .node) (b .right)) where
+      module _ (h : b .all ≡ false) (vs us′ : List ℕ) (e1 : vs ≡ withBlock ws t (getD (c .nodes) level 0) (b .left)) (e2 : us′ ≡ withBlock vs t node (b .right)) where
         left-length : length (b .left) ≡ 16
         left-length = ap length (half-left h ∙ el) ∙ sixteen (take (keep us) us)
 
@@ -203,32 +201,32 @@ module _ (k : Kind) (law : Lawful (k .ops) (k .words) (k .cap) (k .low)) (sixtee
             subst (λ (n : ℕ). Spelt vs t c (moved m (stored (m .s) (put (m .s .st) n (b .left))))) n
             (rw e1 (spelt-store sp (getD (c .nodes) level 0) (rw (name (j .heal)) ((here (j .heal)) .some)) (rw (name (j .heal), ← (same-count (j .heal .spelt) sp)) ((here (j .heal)) .few)) (b .left) left-length))
 
-        stored-both : (m : Mem) → Spelt ws t c m → Spelt us′ t c (moved m (stored (m .s) (put (put (m .s .st) (m .s .ns level) (b .left)) (near .node) (b .right))))
-        stored-both m sp = rw e2 (spelt-store (stored-left m sp) (near .node) (mate .some) (hi-of m sp) (b .right) right-length)
+        stored-both : (m : Mem) → Spelt ws t c m → Spelt us′ t c (moved m (stored (m .s) (put (put (m .s .st) (m .s .ns level) (b .left)) node (b .right))))
+        stored-both m sp = rw e2 (spelt-store (stored-left m sp) node (mate .some) (hi-of m sp) (b .right) right-length)
 
-        pub left-placed : Placed vs t (near .node)
-        left-placed = spelt-placed (stored-left (j .heal .mem) (j .heal .spelt)) (near .node) (mate .some) (mate .few)
+        pub left-placed : Placed vs t node
+        left-placed = spelt-placed (stored-left (j .heal .mem) (j .heal .spelt)) node (mate .some) (mate .few)
 
         pub way-shared : Way us′ t c level
         way-shared =
-            heal-way-put k law (j .heal) (put (put (j .heal .mem .s .st) (j .heal .mem .s .ns level) (b .left)) (near .node) (b .right))
-            (λ x z. HealMem.put-keeps (put (j .heal .mem .s .st) (j .heal .mem .s .ns level) (b .left)) (near .node) (b .right) (nums (j .heal .ready .row)) (mate .inside) x z ∙
+            heal-way-put k law (j .heal) (put (put (j .heal .mem .s .st) (j .heal .mem .s .ns level) (b .left)) node (b .right))
+            (λ x z. HealMem.put-keeps (put (j .heal .mem .s .st) (j .heal .mem .s .ns level) (b .left)) node (b .right) (nums (j .heal .ready .row)) (mate .inside) x z ∙
             HealMem.put-keeps (j .heal .mem .s .st) (j .heal .mem .s .ns level) (b .left) (nums (j .heal .ready .row)) ((here (j .heal)) .inside) x z)
             (stored-both (j .heal .mem) (j .heal .spelt))
 
-        pub joined-some : {xs : List ℕ} → Leaves (λ s. stored s (rightSet (s .st) (s .ns) (s .ps) level (b .key))) us′ xs t c c → Joined k ws xs t c level near false
+        pub joined-some : {xs : List ℕ} → Leaves (λ s. stored s (rightSet (s .st) (s .ns) (s .ps) level (b .key))) us′ xs t c c → Joined k ws xs t c level false
         joined-some {xs} f = record {
           all-is = λ m x sp e. sym h ∙ flag ∙ fits-of m x sp e;
           gather-all = λ m x sp e q. absurd (true≢false (sym q));
           share-some = λ m x sp e q.
-              let i : _≡_ {A = Item} (near .key, near .node) x = cc (near-some near (j .there), e) in
+              let i : _≡_ {A = Item} (key, node) x = cc (j .finds .run m sp, e) in
               let hw : w ≡ m .s .st (m .s .ns level) = ew ∙ here-of (j .heal) m sp in
-              let hv : v ≡ m .s .st (near .node) = ev ∙ mate-of m sp in
-              let g1 : b .left ≡ k .ops .left (m .s .st (m .s .ns level)) (m .s .st (near .node)) (near .key) = half-left h ∙ rw (hw, hv) in
-              let g2 : b .right ≡ k .ops .right (m .s .st (m .s .ns level)) (m .s .st (near .node)) (near .key) = half-right h ∙ rw (hw, hv) in
-              let g3 : b .key ≡ k .ops .mid (m .s .st (m .s .ns level)) (m .s .st (near .node)) (near .key) = half-key h ∙ rw (hw, hv) in
+              let hv : v ≡ m .s .st node = ev ∙ mate-of m sp in
+              let g1 : b .left ≡ k .ops .left (m .s .st (m .s .ns level)) (m .s .st node) key = half-left h ∙ rw (hw, hv) in
+              let g2 : b .right ≡ k .ops .right (m .s .st (m .s .ns level)) (m .s .st node) key = half-right h ∙ rw (hw, hv) in
+              let g3 : b .key ≡ k .ops .mid (m .s .st (m .s .ns level)) (m .s .st node) key = half-key h ∙ rw (hw, hv) in
               subst (λ (x : Item). Spelt xs t c (moved m (shared k (m .s) level x))) i
-              (subst (λ (y : (List ℕ × List ℕ) × ℕ). Spelt xs t c (moved m (stored (m .s) (rightSet (put (put (m .s .st) (m .s .ns level) (y .0 .0)) (near .node) (y .0 .1)) (m .s .ns) (m .s .ps) level (y .1)))))
+              (subst (λ (y : (List ℕ × List ℕ) × ℕ). Spelt xs t c (moved m (stored (m .s) (rightSet (put (put (m .s .st) (m .s .ns level) (y .0 .0)) node (y .0 .1)) (m .s .ns) (m .s .ps) level (y .1)))))
               (λ i. ((g1 i, g2 i), g3 i))
-              (f .run (moved m (stored (m .s) (put (put (m .s .st) (m .s .ns level) (b .left)) (near .node) (b .right)))) (stored-both m sp)));
+              (f .run (moved m (stored (m .s) (put (put (m .s .st) (m .s .ns level) (b .left)) node (b .right)))) (stored-both m sp)));
         }

@@ -3,16 +3,14 @@ use mathlib.Core.Path.{_≡_, sym, ap, _∙_, subst}
 use mathlib.Core.List.{List, _++_}
 use Prim.Native.Nat.{ℕ, _+_, _-_, _≤_, _<_}
 use native.Mathlib.Omega.{arith}
-use lib.ListN.{length, getD, length-append, length-map}
-use lib.Dec.{eqb}
-use Rattle.forest.specs.Lists.{once, count, parent, offset}
+use lib.ListN.{length, getD, length-append}
+use Rattle.forest.specs.Lists.{count, parent, offset}
 use Rattle.forest.specs.Pairs.{Item}
 use Rattle.forest.specs.Rows.{Row, size, nums, sizes, itemsAt}
 use Rattle.forest.specs.Trees.{numbers}
 use Rattle.forest.specs.Pools.{leafWords}
 use Rattle.forest.specs.declared.Cursor.{Cursor}
-use Rattle.forest.proofs.ListLaws.{total-append, parent-lt, offset-lt}
-use Rattle.forest.proofs.RowLaws.{fill-at, length-items}
+use Rattle.forest.proofs.RowLaws.{fill-at, length-items, parent-there, offset-there}
 use Rattle.pool.specs.Stores.{Store, block, withBlock, Placed}
 use Rattle.node.specs.Nodes.{Leaf, leafPairs, leafCut, statusOf}
 use Rattle.node.specs.declared.Removed.{Removed}
@@ -32,6 +30,7 @@ use Rattle.heal.proofs.WoundLaws.{Held}
 use Rattle.heal.proofs.JoinLaws
 use Rattle.heal.proofs.HealReady.{within-once}
 pub use Rattle.forest.proofs.CountLaws.{leaf-length}
+use Rattle.forest.proofs.WordLaws.{count-append}
 
 pub leaf-law : Lawful leafOps leafWords 7 3
 leaf-law = LeafOps.leaf-law 3 (omega arith) (omega arith)
@@ -61,13 +60,13 @@ module _ {ws : List ℕ} {t : ℕ} {c : Cursor} {level : ℕ} (a : Stood ws t c 
   par = parent (sizes (a .row)) (a .at)
 
   par-in : parent (sizes (a .row)) (a .at) < length (a .row)
-  par-in = rw (length-map (a .row) size) at (parent-lt (sizes (a .row)) (a .at) (a .inside))
+  par-in = parent-there (a .row) (a .at) (a .inside)
 
   abbrev xs : List Item
   xs = itemsAt (a .row) (parent (sizes (a .row)) (a .at))
 
   off-in : offset (sizes (a .row)) (a .at) < length xs
-  off-in = rw (length-items (a .row) (parent (sizes (a .row)) (a .at))) (offset-lt (sizes (a .row)) (a .at) (a .inside))
+  off-in = offset-there (a .row) (a .at) (a .inside)
 
   few-xs : length xs ≤ 7
   few-xs = rw (length-items (a .row) (parent (sizes (a .row)) (a .at))) (fill-at 3 7 (sizes (a .row)) (parent (sizes (a .row)) (a .at)) (a .fill))
@@ -84,7 +83,7 @@ module _ {ws : List ℕ} {t : ℕ} {c : Cursor} {level : ℕ} (a : Stood ws t c 
   pub leaf-named : (1 ≤ getD (c .nodes) level 0) × (getD (c .nodes) level 0 ≤ a .mem .count)
   leaf-named =
       within-named (a .mem .count) (nums (a .row) ++ numbers (a .rows)) (a .mem .s .free) (a .within) (getD (c .nodes) level 0)
-      (omega (arith, inside-count, total-append (λ z. once (eqb (getD (c .nodes) level 0) z)) (nums (a .row)) (numbers (a .rows))))
+      (omega (arith, inside-count, count-append (getD (c .nodes) level 0) (nums (a .row)) (numbers (a .rows))))
 
   pub leaf-placed : Placed ws t (getD (c .nodes) level 0)
   leaf-placed = spelt-placed (a .spelt) (getD (c .nodes) level 0) (leaf-named .0) (leaf-named .1)
@@ -120,7 +119,7 @@ module _ {ws : List ℕ} {t : ℕ} {c : Cursor} {level : ℕ} (a : Stood ws t c 
       levels = a .levels;
       inside = par-in;
       stacked = a .stacked;
-      named = λ x h. within-named (a .mem .count) (nums (a .row) ++ numbers (a .rows)) (a .mem .s .free) (a .within) x (omega (arith, total-append (λ z. once (eqb x z)) (nums (a .row)) (numbers (a .rows))));
+      named = λ x h. within-named (a .mem .count) (nums (a .row) ++ numbers (a .rows)) (a .mem .s .free) (a .within) x (omega (arith, count-append x (nums (a .row)) (numbers (a .rows))));
       up = HealMem.up-apart (a .mem .s .st) _ (nums (a .row)) (a .rows)
           (HealMem.put-keeps (a .mem .s .st) (a .mem .s .ns level) _ (nums (a .row)) (rw (← (a .spelt .nodes level (a .deep))) inside-count))
           (HealMem.once-append (nums (a .row)) (numbers (a .rows)) (within-once (a .mem .count) (nums (a .row) ++ numbers (a .rows)) (a .mem .s .free) (a .within))) (a .up);

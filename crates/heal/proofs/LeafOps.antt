@@ -1,12 +1,13 @@
 -- PROOFS. The operations on a leaf's words do to pairs what they should, over the minimum of a leaf that is not the last
 use mathlib.Core.Path.{_≡_, refl}
-use mathlib.Core.List.{List, [], _∷_}
+use mathlib.Core.List.{List}
 use Prim.Native.Nat.{ℕ, _-_, _*_, _≤_}
 use native.Mathlib.Omega.{arith}
 use lib.ListN.{length, getD}
 use Rattle.forest.specs.Pairs.{Item}
 use Rattle.forest.specs.Rows.{front}
 use Rattle.forest.specs.Pools.{leafWords}
+use Rattle.node.proofs.Words
 use Rattle.node.proofs.OnItems.{leaf-cut, leaf-cut-last, leaf-both}
 use Rattle.heal.specs.Steps.{leafOps}
 use Rattle.heal.proofs.HealShape.{Lawful}
@@ -27,5 +28,4 @@ leaf-law low two half = record {
 
 -- the key of the first pair is word 1
 pub leaf-front : (xs : List Item) → 1 ≤ length xs → getD (leafWords xs) 1 0 ≡ front xs
-leaf-front [] h = absurd (omega arith)
-leaf-front (x ∷ xs) h = refl
+leaf-front xs h = Words.leaf-front xs

@@ -1,7 +1,9 @@
 pub mod HealMend
 pub mod HealStep
 pub mod HealShape
+pub mod HealCut
 pub mod HealLevel
+pub mod HealNone
 pub mod HealUp
 pub mod FreeLaws
 pub mod HealReady

@@ -5,13 +5,13 @@ use mathlib.Core.Option.{some}
 use Prim.Native.Nat.{ℕ, suc, _+_, _-_, _≤_, _<_}
 use native.Mathlib.Omega.{arith}
 use lib.ListN.{length, getD, length-map}
-use lib.Dec.{ltb, eqb}
+use lib.Dec.{ltb}
 use borrow.Author.Tests.{ltb-true, ltb-false}
-use Rattle.forest.specs.Lists.{removeAt, once, count, parent, offset}
+use Rattle.forest.specs.Lists.{removeAt, count, parent, offset}
 use Rattle.forest.specs.Pairs.{Item}
 use Rattle.forest.specs.Rows.{Row, size, nums, sizes, itemsAt, front}
 use Rattle.forest.specs.Trees.{numbers}
-use Rattle.forest.proofs.ListLaws.{is, isnt, test, total-append, length-removeAt}
+use Rattle.forest.proofs.ListLaws.{is, isnt, test, length-removeAt}
 use Rattle.forest.proofs.RowLaws.{length-items, fill-at}
 use Rattle.pool.specs.Stores.{Store}
 use Rattle.crit.specs.States.{State, rightSibling}
@@ -25,6 +25,7 @@ use Rattle.crit.proofs.HealPath
 use Rattle.heal.proofs.HealUp.{Lawful}
 use Rattle.heal.proofs.HealReady.{par-in, len-C, pathC, off-in}
 use Rattle.heal.proofs.FreeLaws.{within-named}
+use Rattle.forest.proofs.WordLaws.{count-append}
 
 -- a node of a row, with its words
 pub record Held (enc : List Item → List ℕ) (cap N : ℕ) (R : Row) (st : Store) (n : ℕ) : Type 0 where
@@ -50,7 +51,7 @@ module _ {enc : List Item → List ℕ} {cap low : ℕ} {o : Ops} (law : Lawful 
   held row j h one few =
       let c = HealMem.numAt-counts C j h in
       let c2 : 1 ≤ count (numAt C j) (nums (w .row)) = rw (← nums-C) c in
-      let k = within-named N (nums (w .row) ++ numbers (w .rows)) (s .free) (w .within) (numAt C j) (omega (arith, total-append (λ z. once (eqb (numAt C j) z)) (nums (w .row)) (numbers (w .rows)))) in
+      let k = within-named N (nums (w .row) ++ numbers (w .rows)) (s .free) (w .within) (numAt C j) (omega (arith, count-append (numAt C j) (nums (w .row)) (numbers (w .rows)))) in
       record { some = k .0; few = k .1; inside = c2; items = itemsAt C j; words = HealMem.holds-at enc (s .st) C j h row; one = one; room = few }
 
   xs-is : itemsAt C par ≡ removeAt (offset (sizes (w .row)) (w .at)) (itemsAt (w .row) (parent (sizes (w .row)) (w .at)))
@@ -80,7 +81,7 @@ module _ {enc : List Item → List ℕ} {cap low : ℕ} {o : Ops} (law : Lawful 
         elim (test (ltb (suc (parent (sizes (w .row)) (w .at))) (length C))) [
           | is e ↦
               let b = ltb-true (suc (parent (sizes (w .row)) (w .at))) (length C) e in
-              let q = HealPath.right-is (s .st) (s .ns) (s .ps) (0, 0) C (parent (sizes (w .row)) (w .at)) (w .rows) b st (w .up) (pathC law N l s w) ∙ ap some (HealRows.line-at (0, 0) C (suc (parent (sizes (w .row)) (w .at))) b) in
+              let q = HealPath.right-is (s .st) (s .ns) (s .ps) C (parent (sizes (w .row)) (w .at)) (w .rows) b st (w .up) (pathC law N l s w) ∙ ap some (HealRows.line-at (0, 0) C (suc (parent (sizes (w .row)) (w .at))) b) in
               let i : _≡_ {A = Item} (front (itemsAt C (suc (parent (sizes (w .row)) (w .at)))), numAt C (suc (parent (sizes (w .row)) (w .at)))) x = cc (q, r2) in
               let n : x .1 ≡ numAt C (suc (parent (sizes (w .row)) (w .at))) = ap (λ (y : Item). y .1) (sym i) in
               let ly : length (itemsAt C (suc (parent (sizes (w .row)) (w .at)))) ≡ getD (sizes (w .row)) (suc (parent (sizes (w .row)) (w .at))) 0 =

@@ -1,11 +1,10 @@
 -- DEFINITIONS. The cycle of three over words: what heal_level, underflowed_node and empty_node ask and leave, over the kind of the nodes at a level
 use mathlib.Core.Path.{_≡_}
 use mathlib.Core.List.{List, _++_}
-use mathlib.Core.Bool.{Bool, true, false, cond}
+use mathlib.Core.Bool.{Bool, true, false}
 use mathlib.Core.Option.{some}
-use Prim.Native.Nat.{ℕ, _+_, _-_, _≤_, _<_}
+use Prim.Native.Nat.{ℕ, _+_, _≤_, _<_}
 use lib.ListN.{length, getD}
-use lib.Dec.{ltb, leb}
 use Rattle.forest.specs.Sizes.{mostLevels, leafCap, innerCap, leafLeast, innerLeast}
 use Rattle.forest.specs.Lists.{sum, parent, offset}
 use Rattle.forest.specs.Pairs.{Item}
@@ -13,63 +12,66 @@ use Rattle.forest.specs.Rows.{Row, nums, sizes, Fill}
 use Rattle.forest.specs.Trees.{numbers}
 use Rattle.forest.specs.Pools.{leafWords, innerWords}
 use Rattle.forest.specs.declared.Cursor.{Cursor}
-use Rattle.pool.specs.Stores.{put}
 use Rattle.node.specs.Nodes.{statusOf}
 use Rattle.node.specs.declared.Removed.{Removed}
 use Rattle.node.specs.declared.Removed.the-variants.{Underflow}
-use Rattle.crit.specs.States.{State, rightSet, handKey, stored, lives}
+use Rattle.crit.specs.States.{State, rightSibling}
 use Rattle.crit.specs.Paths.{Stacked, Holds, HoldsUp, Path}
-use Rattle.crit.specs.Asks.{Mem, Spelt, Way, Finds, nearOf, moved}
-use Rattle.crit.specs.declared.Near.{Near}
+use Rattle.crit.specs.Asks.{Mem, Spelt, Way, Finds, moved}
+use Rattle.crit.specs.declared.Near.the-variants.{Right}
+use Rattle.heal.specs.Steps
 use Rattle.heal.specs.Steps.{Ops, leafOps, innerOps, parentCut, healLevel, underflowed, emptyNode}
 use Rattle.heal.specs.Wounds.{Within, Emptied, Wounded}
 
--- leaves, or inner nodes: the operations, the words of items, capacity and minimum
+-- a kind of node: the operations, the words of items, capacity and minimum
 pub record Kind : Type 0 where
   pub ops : Ops
   pub words : List Item → List ℕ
   pub cap : ℕ
   pub low : ℕ
 
+-- leaves
 abbrev pub leafKind : Kind
 leafKind = record { ops = leafOps; words = leafWords; cap = leafCap; low = leafLeast }
 
+-- inner nodes
 abbrev pub innerKind : Kind
 innerKind = record { ops = innerOps; words = innerWords; cap = innerCap; low = innerLeast }
 
--- what each function of the cycle does
+-- what empty_node does
 unfoldable pub emptied : ℕ → State → State
 emptied l s = emptyNode innerOps l s
 
 module _ (k : Kind) where
-  -- the items left in the node at a level, and how it stands
+  -- the items left in the node at a level
   abbrev pub left : State → ℕ → ℕ
-  left s l = k .ops .entries (s .st (s .ns l))
+  left = Steps.left (k .ops) (k .cap)
 
+  -- how it stands
   abbrev pub standing : State → ℕ → Removed
   standing s l = statusOf (k .cap) (s .ps l) (left s l)
 
   -- do the items of the node at a level and of its neighbour fit in one
   abbrev pub fits : State → ℕ → Item → Bool
-  fits s l x = leb (left s l + k .ops .entries (s .st (x .1))) (k .cap)
+  fits = Steps.fits (k .ops) (k .cap)
 
-  -- everything goes to the neighbour, or they share
+  -- everything goes to the neighbour
   abbrev pub gathered : State → ℕ → Item → State
-  gathered s l x = stored s (handKey (put (s .st) (x .1) (k .ops .gather (s .st (s .ns l)) (s .st (x .1)) (x .0))) (s .ns) (s .ps) l)
+  gathered = Steps.gathered (k .ops) (k .cap)
 
+  -- or they share
   abbrev pub shared : State → ℕ → Item → State
-  shared s l x =
-      stored s (rightSet
-      (put (put (s .st) (s .ns l) (k .ops .left (s .st (s .ns l)) (s .st (x .1)) (x .0))) (x .1) (k .ops .right (s .st (s .ns l)) (s .st (x .1)) (x .0)))
-      (s .ns) (s .ps) l (k .ops .mid (s .st (s .ns l)) (s .st (x .1)) (x .0)))
+  shared = Steps.shared (k .ops) (k .cap)
 
   -- with no neighbour it stays small; off the end if the place was the last
   abbrev pub stayed : State → ℕ → State
-  stayed s l = cond (ltb (s .ps l) (left s l)) s (lives s false)
+  stayed = Steps.stayed (k .ops) (k .cap)
 
+  -- what heal_level does
   unfoldable pub healed : ℕ → State → State
   healed l s = healLevel (k .ops) (k .cap) (emptyNode innerOps l) l s
 
+  -- what underflowed_node does
   unfoldable pub under : ℕ → State → State
   under l s = underflowed (k .ops) (k .cap) (emptyNode innerOps l) l s
 
@@ -89,16 +91,20 @@ pub record AskHeal (k : Kind) (ws : List ℕ) (t : ℕ) (c : Cursor) (status : R
   pub says : status ≡ standing k (mem .s) level
 
 -- two neighbours may be joined
-pub record AskJoin (k : Kind) (ws : List ℕ) (t : ℕ) (c : Cursor) (level : ℕ) (near : Near) : Type 0 where
+pub record AskJoin (k : Kind) (ws : List ℕ) (t : ℕ) (c : Cursor) (level key node : ℕ) : Type 0 where
   pub heal : AskHeal k ws t c Underflow level
-  pub finds : Finds ws t c level near
-  pub there : near .there ≡ true
+  pub finds : Finds ws t c level (Right key node)
 
--- all went to the right, or they share
-pub record Joined (k : Kind) (ws vs : List ℕ) (t : ℕ) (c : Cursor) (level : ℕ) (near : Near) (all : Bool) : Type 0 where
-  pub all-is : (m : Mem) (x : Item) → Spelt ws t c m → nearOf near ≡ some x → all ≡ fits k (m .s) level x
-  pub gather-all : (m : Mem) (x : Item) → Spelt ws t c m → nearOf near ≡ some x → all ≡ true → Spelt vs t c (moved m (gathered k (m .s) level x))
-  pub share-some : (m : Mem) (x : Item) → Spelt ws t c m → nearOf near ≡ some x → all ≡ false → Spelt vs t c (moved m (shared k (m .s) level x))
+-- two leaves may be joined, whatever the key between them
+pub record AskJoinLeaf (ws : List ℕ) (t : ℕ) (c : Cursor) (level node : ℕ) : Type 0 where
+  pub key : ℕ
+  pub ask : AskJoin leafKind ws t c level key node
+
+-- all went to the right neighbour x, or they share
+pub record Joined (k : Kind) (ws vs : List ℕ) (t : ℕ) (c : Cursor) (level : ℕ) (all : Bool) : Type 0 where
+  pub all-is : (m : Mem) (x : Item) → Spelt ws t c m → rightSibling (m .s .st) (m .s .ns) (m .s .ps) level ≡ some x → all ≡ fits k (m .s) level x
+  pub gather-all : (m : Mem) (x : Item) → Spelt ws t c m → rightSibling (m .s .st) (m .s .ns) (m .s .ps) level ≡ some x → all ≡ true → Spelt vs t c (moved m (gathered k (m .s) level x))
+  pub share-some : (m : Mem) (x : Item) → Spelt ws t c m → rightSibling (m .s .st) (m .s .ns) (m .s .ps) level ≡ some x → all ≡ false → Spelt vs t c (moved m (shared k (m .s) level x))
 
 -- the node at level l has lost its item, and how it stands
 pub record Cuts (k : Kind) (ws vs : List ℕ) (t : ℕ) (c : Cursor) (l : ℕ) (r : Removed) : Type 0 where

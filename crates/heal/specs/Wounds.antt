@@ -46,6 +46,7 @@ pub data Left (enc : List Item → List ℕ) (S : Row) (i : ℕ) (Ss : List Row)
   alive : 2 ≤ length (itemsAt S (parent (sizes S) i)) → Stacked (cutRow i S) Ss → Holds enc (s .st) (cutRow i S) → Left enc S i Ss s
   dead : length (itemsAt S (parent (sizes S) i)) ≡ 1 → Stacked S Ss → 2 ≤ sum (sizes S) → s .st (s .ns (length Ss)) ≡ noWords → Holds enc (s .st) (removeAt (parent (sizes S) i) S) → Left enc S i Ss s
 
+-- and the rows around it, as the words hold them
 pub record Wounded (enc : List Item → List ℕ) (cap low N l : ℕ) (s : State) : Type 0 where
   pub row : Row
   pub at : ℕ

@@ -1,8 +1,9 @@
 // Healing upward after an item went, as the crate's path.rs has it: the cut, the cycle of three, and the leaf at the bottom.
 ghost use Prim.Native.Nat.{_-_, _<_};
+ghost use Rattle.forest.specs.Sizes.{leafCap};
 ghost use Rattle.crit.specs.Asks.{Way, Leaves};
 ghost use Rattle.heal.specs.Steps.{leafOps, innerOps, leafFront, fronted, taken};
-ghost use Rattle.heal.specs.Cycle.{innerKind, leafKind, stayed, emptied, under, AskEmpty, AskHeal, AskJoin, AskFront, Joined, Cuts, Mends, Stood};
+ghost use Rattle.heal.specs.Cycle.{innerKind, leafKind, stayed, emptied, under, AskEmpty, AskHeal, AskJoin, AskJoinLeaf, AskFront, Joined, Cuts, Mends, Stood};
 ghost use Rattle.node.specs.declared.Removed.{Removed};
 use crit::Near;
 use forest::Cursor;
@@ -40,23 +41,23 @@ fn no_right(ws: &[u32], t: usize, c: Cursor, level: usize) -> Cursor
 }
 
 // An inner node gives all its children to its right sibling, or they share; was it all?
-fn join(ws: &mut [u32], t: usize, c: Cursor, level: usize, near: Near) -> bool
-    requires { ⌜ AskJoin innerKind (now ws) t c level near ⌝ }
-    ensures { λ r. ⌜ Joined innerKind (now (ws .entry)) (now (ws .exit)) t c level near r ⌝ }
+fn join(ws: &mut [u32], t: usize, c: Cursor, level: usize, key: u32, node: u32) -> bool
+    requires { ⌜ AskJoin innerKind (now ws) t c level key node ⌝ }
+    ensures { λ r. ⌜ Joined innerKind (now (ws .entry)) (now (ws .exit)) t c level r ⌝ }
 {
     let n = c.nodes[level];
     let w = pool::load(ws, t, n);
-    let v = pool::load(ws, t, near.node);
-    let b = node::inner_balance(w, v, near.key);
+    let v = pool::load(ws, t, node);
+    let b = node::inner_balance(w, v, key);
     let right = b.right;
     if b.all {
-        pool::store(ws, t, near.node, right);
+        pool::store(ws, t, node, right);
         crit::hand_crit_key(ws, t, c, level);
         return true;
     }
     let left = b.left;
     pool::store(ws, t, n, left);
-    pool::store(ws, t, near.node, right);
+    pool::store(ws, t, node, right);
     crit::update_right_crit_key(ws, t, c, level, b.key);
     false
 }
@@ -87,9 +88,8 @@ fn underflowed_node(ws: &mut [u32], t: usize, c: Cursor, level: usize) -> Cursor
     requires { ⌜ AskHeal innerKind (now ws) t c Removed.Underflow level ⌝ }
     ensures { λ r. ⌜ Leaves (under innerKind level) (now (ws .entry)) (now (ws .exit)) t c r ⌝ }
 {
-    let near = crit::right_sibling(ws, t, c, level);
-    if near.there {
-        if join(ws, t, c, level, near) {
+    if let Near::Right(key, node) = crit::right_sibling(ws, t, c, level) {
+        if join(ws, t, c, level, key, node) {
             return empty_node(ws, t, c, level);
         }
         return c;
@@ -112,7 +112,7 @@ fn empty_node(ws: &mut [u32], t: usize, c: Cursor, level: usize) -> Cursor
     let near = crit::right_sibling(ws, t, c, level);
     let status = cut_parent(ws, t, c, level);
     let d = heal_level(ws, t, c, status, level - 1);
-    crit::settle(d, level, near)
+    crit::through_right(d, level, near)
 }
 
 // With no right sibling a leaf stays small; off the end if its last pair went.
@@ -132,23 +132,23 @@ fn no_right_leaf(ws: &[u32], t: usize, c: Cursor, level: usize) -> Cursor
 }
 
 // A leaf gives all its pairs to its right sibling, or they share; was it all?
-fn join_leaf(ws: &mut [u32], t: usize, c: Cursor, level: usize, near: Near) -> bool
-    requires { ⌜ AskJoin leafKind (now ws) t c level near ⌝ }
-    ensures { λ r. ⌜ Joined leafKind (now (ws .entry)) (now (ws .exit)) t c level near r ⌝ }
+fn join_leaf(ws: &mut [u32], t: usize, c: Cursor, level: usize, node: u32) -> bool
+    requires { ⌜ AskJoinLeaf (now ws) t c level node ⌝ }
+    ensures { λ r. ⌜ Joined leafKind (now (ws .entry)) (now (ws .exit)) t c level r ⌝ }
 {
     let n = c.nodes[level];
     let w = pool::load(ws, t, n);
-    let v = pool::load(ws, t, near.node);
+    let v = pool::load(ws, t, node);
     let b = node::leaf_balance(w, v);
     let right = b.right;
     if b.all {
-        pool::store(ws, t, near.node, right);
+        pool::store(ws, t, node, right);
         crit::hand_crit_key(ws, t, c, level);
         return true;
     }
     let left = b.left;
     pool::store(ws, t, n, left);
-    pool::store(ws, t, near.node, right);
+    pool::store(ws, t, node, right);
     crit::update_right_crit_key(ws, t, c, level, b.key);
     false
 }
@@ -158,9 +158,8 @@ fn underflowed_leaf(ws: &mut [u32], t: usize, c: Cursor, level: usize) -> Cursor
     requires { ⌜ AskHeal leafKind (now ws) t c Removed.Underflow level ⌝ }
     ensures { λ r. ⌜ Leaves (under leafKind level) (now (ws .entry)) (now (ws .exit)) t c r ⌝ }
 {
-    let near = crit::right_sibling(ws, t, c, level);
-    if near.there {
-        if join_leaf(ws, t, c, level, near) {
+    if let Near::Right(_, node) = crit::right_sibling(ws, t, c, level) {
+        if join_leaf(ws, t, c, level, node) {
             return empty_node(ws, t, c, level);
         }
         return c;
@@ -206,7 +205,7 @@ fn cut_leaf(ws: &mut [u32], t: usize, c: Cursor, level: usize) -> Removed
 // The front pair of the leaf went, and another is the first: the key before the leaf is that one's.
 fn update_front(ws: &mut [u32], t: usize, c: Cursor, level: usize)
     requires { ⌜ AskFront (now ws) t c level ⌝ }
-    ensures { λ _. ⌜ Leaves (λ s. fronted leafOps 7 innerOps leafFront s level) (now (ws .entry)) (now (ws .exit)) t c c ⌝ }
+    ensures { λ _. ⌜ Leaves (λ s. fronted leafOps leafCap innerOps leafFront s level) (now (ws .entry)) (now (ws .exit)) t c c ⌝ }
 {
     let n = c.nodes[level];
     let p = c.places[level];

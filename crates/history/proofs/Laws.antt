@@ -1,46 +1,91 @@
 -- PROOFS. Demand 3 on words; words stay sound; a promise settles its outcome
 use mathlib.Core.Path.{_≡_, refl, sym, ap, _∙_}
 use mathlib.Core.List.{List, [], _∷_}
-use mathlib.Core.Bool.{true, false, _&&_, true≢false}
-use Prim.Native.Nat.{ℕ, _≤_}
+use mathlib.Core.Bool.{Bool, true, false, cond, _&&_, true≢false}
+use Prim.Native.Nat.{ℕ, _+_, _*_, _≤_}
 use native.Mathlib.Omega.{arith}
 use lib.ListN.{length}
 use lib.Dec.{eqb, leb}
-use borrow.Author.Tests.{eqb-true, leb-true}
-use Rattle.forest.specs.Sizes.{leafLeast}
+use borrow.Author.Tests.{eqb-true, leb-true, le-ltb}
+use Rattle.forest.specs.Sizes.{mostTrees, mostNodes, leafLeast}
 use Rattle.forest.specs.declared.Answer.{Answer}
 use Rattle.forest.specs.declared.Cursor.{Cursor}
-use Rattle.forest.specs.Pools.{Pool, WellFormed, Sound, encode, fresh, Call, target, treeOf, refused, call, run, answers, own, ownAnswers, formatted, formatWords, shape}
-use Rattle.forest.specs.Cursors.{Move}
+use Rattle.forest.specs.Pools.{Pool, WellFormed, Sound, encode, fresh, Call, get, target, treeOf, refused, call, run, answers, own, ownAnswers, formatted, formatWords, shape}
+use Rattle.forest.specs.Cursors.{Move, to-key, blocked, moveFrom, move}
 use Rattle.forest.specs.Promises.{Calls, Moves}
 use Rattle.forest.proofs.ListLaws.{is, isnt, test}
-use Rattle.forest.proofs.PoolLaws.{call-formed}
-use Rattle.forest.proofs.CountLaws.{fresh-formed}
+use Rattle.forest.proofs.PoolLaws.{call-formed, same-trees, same-count}
+use Rattle.forest.proofs.CountLaws.{fresh-formed, encode-length}
+use Rattle.forest.proofs.CallLaws.{get-same}
+use Rattle.forest.proofs.CursorCalls.{move-reads}
+use Rattle.forest.proofs.RemoveLaws.{remove-goes}
 use Rattle.forest.proofs.RunLaws.{answer-number, run-formed, demand-3}
 use Rattle.forest.proofs.UniqueLaws.{same-pool}
 use Rattle.forest.proofs.PromiseLaws.{calls-sound, moves-sound, calls-by, one-outcome-sound, one-outcome-unsound}
 use Rattle.sound.specs.Checks.{checked}
 use Rattle.sound.proofs.CheckSteps.{exact}
-use Rattle.history.specs.Histories.{Ran, none, one, counts, ownOf, answersOf, Independent, Went, stays, formats, calls, moves}
+use Rattle.history.specs.Histories.{Made, by-key, took, sought, Ran, none, one, moved, counts, ownOf, answersOf, Independent, Went, stays, formats, calls, moves}
+
+-- a format is done only where T, N and the length are as they must be
+pub format-in : (T N len : ℕ) → formatted T N len ≡ 0 → (1 ≤ T) × (T ≤ mostTrees) × (N ≤ mostNodes) × (len ≡ T + 17 * N + 3)
+unfolding formatted
+format-in T N len h =
+    let e = each (leb 1 T) (leb T mostTrees) (leb N mostNodes) (eqb len (T + 17 * N + 3)) h in
+    (leb-true _ _ (e .0), leb-true _ _ (e .1), leb-true _ _ (e .2), eqb-true _ _ (e .3))
+  where
+    each : (a b c d : Bool) → _≡_ {A = ℕ} (cond (a && (b && (c && d))) 0 5) 0 → (a ≡ true) × (b ≡ true) × (c ≡ true) × (d ≡ true)
+    each false b c d h = absurd (omega arith)
+    each true false c d h = absurd (omega arith)
+    each true true false d h = absurd (omega arith)
+    each true true true false h = absurd (omega arith)
+    each true true true true h = (refl, refl, refl, refl)
 
 module _ (m : ℕ) (lo : 1 ≤ m) (hi : m ≤ 4) where
+  -- a seek answers as a get of its key
+  seek-get : (k : ℕ) (c : Cursor) (p : Pool) → (call (get (c .tree) k) p) .answer ≡ (move (to-key k) c p) .answer
+  unfolding call refused move blocked moveFrom
+  seek-get k c p = elim (test (leb (length (p .trees)) (c .tree))) [
+    | is e ↦ simp e
+    | isnt e ↦ simp (e, le-ltb (length (p .free)) 0 (omega arith))
+  ]
+
+  -- what counts as a call keeps that call's promise
+  pub made-calls : {c : Call} {ws us : List ℕ} {r : Answer} → Made m c ws us r → Calls m c ws us r
+  made-calls (by-key k) = k
+  made-calls (took {c = c} {y = y} k t) = record {
+    sound-words = λ p w e. ap encode (sym ((remove-goes m lo hi p w c y (t .free p w e) (t .pair p w e)) .same-pool)) ∙ k .sound-words p w e;
+    sound-answer = λ p w e. sym ((remove-goes m lo hi p w c y (t .free p w e) (t .pair p w e)) .same-answer) ∙ k .sound-answer p w e;
+    unsound-words = k .unsound-words;
+    unsound-answer = k .unsound-answer;
+  }
+  made-calls (sought {k = x} {c = c} k) = record {
+    sound-words = λ p w e.
+        let stays : (move (to-key x) c p) .pool ≡ p = move-reads m lo hi (to-key x) c p (λ z. let y : _≡_ {A = ℕ} 0 1 = cc in omega arith) in
+        ap encode (get-same (c .tree) x p ∙ sym stays) ∙ k .sound-words p w e;
+    sound-answer = λ p w e. seek-get x c p ∙ k .sound-answer p w e;
+    unsound-words = k .unsound-words;
+    unsound-answer = k .unsound-answer;
+  }
+
   -- a history on the words of a pool is the calls on the pool
   pub ran-words : {cs : List Call} {ws vs : List ℕ} {rs : List Answer} → Ran m cs ws vs rs → (p : Pool) → WellFormed m p → encode p ≡ ws → encode (run cs p) ≡ vs
   ran-words none p w e = e
-  ran-words (one {c = c} k h) p w e = ran-words h ((call c p) .pool) (call-formed m lo hi c p w) (k .sound-words p w e)
+  ran-words (one {c = c} k h) p w e = ran-words h ((call c p) .pool) (call-formed m lo hi c p w) ((made-calls k) .sound-words p w e)
+  ran-words (moved k q h) p w e = ran-words h p w (e ∙ sym q)
 
   pub ran-answers : {cs : List Call} {ws vs : List ℕ} {rs : List Answer} → Ran m cs ws vs rs → (p : Pool) → WellFormed m p → encode p ≡ ws → answers cs p ≡ rs
   ran-answers none p w e = refl
   ran-answers (one {c = c} k h) p w e =
-      let a = k .sound-answer p w e in
-      let b = ran-answers h ((call c p) .pool) (call-formed m lo hi c p w) (k .sound-words p w e) in
+      let a = (made-calls k) .sound-answer p w e in
+      let b = ran-answers h ((call c p) .pool) (call-formed m lo hi c p w) ((made-calls k) .sound-words p w e) in
       cc
+  ran-answers (moved k q h) p w e = ran-answers h p w (e ∙ sym q)
 
-  -- there is such a history
+  -- there is such a history, of any calls by key
   pub ran : (cs : List Call) (p : Pool) → WellFormed m p → Ran m cs (encode p) (encode (run cs p)) (answers cs p)
   ran [] p w = none
   ran (c ∷ cs) p w =
-      one (calls-by m lo c (encode p) (encode ((call c p) .pool)) ((call c p) .answer) (record { pool = p; formed = w; same = refl }) refl refl)
+      one (by-key (calls-by m lo c (encode p) (encode ((call c p) .pool)) ((call c p) .answer) (record { pool = p; formed = w; same = refl }) refl refl))
       (ran cs ((call c p) .pool) (call-formed m lo hi c p w))
 
   -- struck out by the answers is struck out by the pool
@@ -84,17 +129,9 @@ module _ (m : ℕ) (lo : 1 ≤ m) (hi : m ≤ 4) where
 
   -- Soundness after every call, refused or not, from sound words or from words just formatted
   pub fresh-sound : (T N len : ℕ) → formatted T N len ≡ 0 → Sound m (encode (fresh T N))
-  unfolding formatted
-  fresh-sound T N len e = elim (test (leb 1 T)) [
-    | is a ↦ elim (test (leb T 32)) [
-      | is b ↦ elim (test (leb N 512)) [
-        | is d ↦ record { pool = fresh T N; formed = fresh-formed m T N (leb-true _ _ a) (leb-true _ _ b) (leb-true _ _ d); same = refl }
-        | isnt d ↦ absurd (let z = simp (a, b, d) at e in omega arith)
-      ]
-      | isnt b ↦ absurd (let z = simp (a, b) at e in omega arith)
-    ]
-    | isnt a ↦ absurd (let z = simp a at e in omega arith)
-  ]
+  fresh-sound T N len e =
+      let i = format-in T N len e in
+      record { pool = fresh T N; formed = fresh-formed m T N (i .0) (i .1) (i .2); same = refl }
 
   format-sound : (T N : ℕ) (ws : List ℕ) → Sound m ws → Sound m (formatWords T N ws)
   unfolding formatWords
@@ -116,6 +153,24 @@ module _ (c : Call) (before x y : List ℕ) (r s : Answer) (a : Calls leafLeast 
     | is e ↦ one-outcome-sound leafLeast c before x y r s a b ((exact before true (sym e)) .yes refl)
     | isnt e ↦ one-outcome-unsound leafLeast c before x y r s a b (λ q. true≢false (sym ((exact before false (sym e)) .every q)))
   ]
+
+-- A call leaves as many words as there were
+pub same-length : (c : Call) (before after : List ℕ) (r : Answer) → Calls leafLeast c before after r → length after ≡ length before
+same-length c before after r k = elim (test (checked before leafLeast)) [
+  | is e ↦
+      let s : Sound leafLeast before = (exact before true (sym e)) .yes refl in
+      let p = s .pool in
+      omega (
+        arith,
+        encode-length p,
+        encode-length ((call c p) .pool),
+        same-trees c p,
+        same-count c p,
+        ap length (s .same),
+        ap length (k .sound-words p (s .formed) (s .same)),
+      )
+  | isnt e ↦ ap length (k .unsound-words (λ q. true≢false (sym ((exact before false (sym e)) .every q))))
+]
 
 module _ (v : Move) (c : Cursor) (before x y : List ℕ) (r s : Answer) (d e : Cursor)
     (a : Moves leafLeast v c before x r d) (b : Moves leafLeast v c before y s e) where

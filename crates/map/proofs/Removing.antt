@@ -1,11 +1,11 @@
 -- PROOFS. Taking out keeps the promises of remove by key and remove at a cursor
-use mathlib.Core.Path.{_≡_, refl, sym, ap, _∙_}
+use mathlib.Core.Path.{_≡_, refl, sym, ap, _∙_, subst}
 use mathlib.Core.List.{List, [], _∷_}
 use mathlib.Core.Bool.{false, true≢false}
 use mathlib.Core.Option.{Option, none, some}
-use Prim.Native.Nat.{ℕ, _<_}
+use Prim.Native.Nat.{ℕ, _+_, _≤_, _<_}
 use native.Mathlib.Omega.{arith}
-use lib.ListN.{length}
+use lib.ListN.{length, getD}
 use Rattle.forest.specs.Sizes.{leafLeast, mostLevels}
 use lib.Dec.{eqb}
 use Rattle.forest.specs.Pairs.{Item, has, lookup}
@@ -22,12 +22,15 @@ use Rattle.forest.proofs.TreeLaws.{pairs-get}
 use Rattle.forest.proofs.PoolLaws.{good-at}
 use Rattle.forest.proofs.CallLaws.{remove-absent}
 use Rattle.forest.proofs.RemoveLaws.{Removes as Gone, remove-goes, remove-none}
-use Rattle.path.specs.Cores.{Ready, Of, At, Standing, Goes, Sees, lookOf}
+use Rattle.path.specs.Cores.{Ready, Of, At, Standing, Sees, Ends, Looks, lookIn, lookOf}
 use Rattle.path.specs.declared.Look.{Look}
 use Rattle.path.specs.declared.Look.the-variants.{Pair, Nothing}
 use Rattle.path.proofs.Roots.{trees-are}
 use Rattle.path.proofs.Made.{fits-seek, gone-tree, gone-standing, gone-ready}
+use Rattle.path.proofs.Foots.{looks-empty, ends-in, ends-place, ends-looks}
 use Rattle.remove.specs.Ends.{OnPair, AskRemove, Removes}
+use Rattle.remove.specs.Keys.{AskKey, RemovesKey}
+use Rattle.remove.proofs.KeyLaws.{same-cursor}
 use Rattle.map.specs.Gates.{heldAt}
 use Rattle.map.proofs.Promising.{of, own-at, free-reads, tree-there, seek-held}
 
@@ -107,38 +110,41 @@ held-none : (o : Option ℕ) → held o ≡ nothing → o ≡ none
 held-none none e = refl
 held-none (some v) e = absurd (true≢false (ap (λ (a : Answer). a .found) e))
 
-module _ (ws : List ℕ) (t tree k : ℕ) (y : Ready ws t tree) (d : Cursor) (g : Goes (seek k) ws tree d) (l : Look) (x : Sees ws d l) where
+module _ (ws : List ℕ) (t tree k : ℕ) (y : Ready ws t tree) (l : Look) (o : Looks k ws tree l) where
+  abbrev d : Cursor
+  d = o .at
+
   same-tree : d .tree ≡ tree
-  same-tree = gone-tree (seek k) (fits-seek k) ws t tree d y g
+  same-tree = gone-tree (seek k) (fits-seek k) ws t tree d y (o .goes)
 
   ready-there : Ready ws t (d .tree)
-  ready-there = gone-ready (seek k) (fits-seek k) ws t tree d y g
+  ready-there = gone-ready (seek k) (fits-seek k) ws t tree d y (o .goes)
 
   stands-there : Standing ws d
-  stands-there = gone-standing (seek k) (fits-seek k) ws t tree d y g
+  stands-there = gone-standing (seek k) (fits-seek k) ws t tree d y (o .goes)
 
-  pub ask-found : (h v : ℕ) → l ≡ Pair h v → AskRemove ws t d
-  ask-found h v e = ask-remove ws t d ready-there stands-there l x h v e
+  ask-found : (h v : ℕ) → l ≡ Pair h v → AskRemove ws t d
+  ask-found h v e = ask-remove ws t d ready-there stands-there l (o .sees) h v e
 
-  pub removed-calls : (h v : ℕ) → l ≡ Pair h v → h ≡ k → (vs : List ℕ) (r : Cursor) → Removes ws vs d r → Calls leafLeast (remove tree k) ws vs (found-with 0 v)
-  removed-calls h v e i vs r q =
+  pub removed-calls : (h v : ℕ) → l ≡ Pair h v → h ≡ k → (vs : List ℕ) → RemovesKey ws vs tree k → Calls leafLeast (remove tree k) ws vs (found-with 0 v)
+  removed-calls h v e i vs q =
       let e′ : l ≡ Pair k v = e ∙ ap (λ (n : ℕ). Pair n v) i in
       let goes : (p : Pool) (w : WellFormed leafLeast p) → encode p ≡ ws → Gone p d (k, v) (move to-remove d p) =
       λ p w b. remove-goes leafLeast (omega arith) (omega arith) p w d (k, v) (free-reads ws t d ready-there stands-there to-remove refl p (of ws p w b))
-      (pair-there ws t d ready-there stands-there l x k v e′ p (of ws p w b)) in
+      (pair-there ws t d ready-there stands-there l (o .sees) k v e′ p (of ws p w b)) in
       record {
-        sound-words = λ p w b. ap encode (sym ((goes p w b) .same-pool ∙ ap (λ (n : ℕ). (call (remove n k) p) .pool) same-tree)) ∙ q .words p w b;
+        sound-words = λ p w b. ap encode (sym ((goes p w b) .same-pool ∙ ap (λ (n : ℕ). (call (remove n k) p) .pool) same-tree)) ∙ q .words d (o .goes) p w b;
         sound-answer = λ p w b. sym ((goes p w b) .same-answer ∙ ap (λ (n : ℕ). (call (remove n k) p) .answer) same-tree) ∙ (goes p w b) .value;
         unsound-words = λ n. absurd (n (y .sound));
         unsound-answer = λ n. absurd (n (y .sound));
       }
 
   absent : heldAt l k ≡ reply.Nothing → (p : Pool) → Of ws p → call (remove tree k) p ≡ record { answer = nothing; pool = p }
-  absent e p o =
-      let good = good-at leafLeast (p .trees) tree (o .formed .good) in
-      let a : getTree k (treeOf p tree) ≡ none = held-none (getTree k (treeOf p tree)) (seek-held ws t (cursorAt tree []) y k d l reply.Nothing g x (sym e) p o) in
+  absent e p f =
+      let good = good-at leafLeast (p .trees) tree (f .formed .good) in
+      let a : getTree k (treeOf p tree) ≡ none = held-none (getTree k (treeOf p tree)) (seek-held ws t (cursorAt tree []) y k d l reply.Nothing (o .goes) (o .sees) (sym e) p f) in
       let b : lookup k (pairs (treeOf p tree)) ≡ none = sym (pairs-get leafLeast 7 k (omega arith) (treeOf p tree) good) ∙ a in
-      remove-absent leafLeast (omega arith) tree k p (o .formed) (tree-there ws t tree y p o) (has-none k (pairs (treeOf p tree)) b)
+      remove-absent leafLeast (omega arith) tree k p (f .formed) (tree-there ws t tree y p f) (has-none k (pairs (treeOf p tree)) b)
 
   pub absent-calls : heldAt l k ≡ reply.Nothing → Calls leafLeast (remove tree k) ws ws nothing
   absent-calls e = record {
@@ -147,3 +153,28 @@ module _ (ws : List ℕ) (t tree k : ℕ) (y : Ready ws t tree) (d : Cursor) (g 
     unsound-words = λ n. absurd (n (y .sound));
     unsound-answer = λ n. absurd (n (y .sound));
   }
+
+-- r is the root word
+module _ (ws : List ℕ) (t tree k r : ℕ) (y : Ready ws t tree) (w : r ≡ getD ws (tree + 1) 0) where
+  root-word : r ≡ getD ws (1 + tree) 0
+  root-word = let z : 1 + tree ≡ tree + 1 = omega arith in rw z w
+
+  pub empty-calls : r ≡ 0 → Calls leafLeast (remove tree k) ws ws nothing
+  empty-calls z = absent-calls ws t tree k y Nothing (looks-empty ws t tree y k (sym root-word ∙ z)) refl
+
+  pub root-some : (r ≡ 0 → ⊥) → 1 ≤ getD ws (1 + tree) 0
+  root-some z = rw (← root-word) (omega arith)
+
+-- the leaf n where the path of the key ends, at place e, and the look l there
+module _ (ws : List ℕ) (t tree k n e : ℕ) (y : Ready ws t tree) (d : Ends k ws tree n e) where
+  pub place-few : e ≤ 7
+  place-few = omega (arith, ends-place ws t tree y k n e d, (ends-in ws t tree y k n e d) .most)
+
+  pub ask-key : (h v : ℕ) → lookIn ws t n e ≡ Pair h v → AskKey ws t tree k n e
+  ask-key h v q =
+      let o = ends-looks ws t tree y k n e d in
+      record {
+        ready = y;
+        ends = d;
+        asks = λ c g. subst (AskRemove ws t) (sym (same-cursor ws t tree k y c (o .at) g (o .goes))) (ask-found ws t tree k y (lookIn ws t n e) o h v q);
+      }

@@ -28,7 +28,7 @@ Closed ws tree NoPlace = ⊥
 Closed ws tree NoRoom = ⊥
 Closed ws tree NoFormat = ⊥
 
--- and a cursor: of 1, 2 and 3
+-- and a cursor: the first of 1, 2 and 3; `gate` and `admit` ask for sound words, so from them 1 does not come
 abbrev pub Barred : List ℕ → Cursor → Refusal → Type 0
 Barred ws c Unsound = Closed ws (c .tree) Unsound
 Barred ws c NoTree = Closed ws (c .tree) NoTree
@@ -41,6 +41,7 @@ pub record Gates (ws : List ℕ) (tree : ℕ) (r : Pass) : Type 0 where
   pub passes : (t : ℕ) → r ≡ Open t → Ready ws t tree
   pub shut : (x : Refusal) → r ≡ Shut x → Closed ws tree x
 
+-- and with a cursor: it stands
 pub record Admits (ws : List ℕ) (c : Cursor) (r : Pass) : Type 0 where
   pub passes : (t : ℕ) → r ≡ Open t → Ready ws t (c .tree)
   pub stands : (t : ℕ) → r ≡ Open t → Standing ws c

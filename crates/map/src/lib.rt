@@ -19,7 +19,7 @@ enum Pass {
     Shut(Refusal),
 }
 
-// The tree number.
+// The number of trees, or 2 where there is no such tree.
 fn gate(ws: &[u32], tree: u32) -> Pass
     requires { ⌜ Sound leafLeast (now ws) ⌝ }
     ensures { λ r. ⌜ Gates (now (ws .entry)) tree r ⌝ }
@@ -31,7 +31,7 @@ fn gate(ws: &[u32], tree: u32) -> Pass
     Pass::Open(t)
 }
 
-// The tree number, then the cursor.
+// The number of trees, or 2 where there is no such tree, or 3 where the cursor does not stand.
 fn admit(ws: &[u32], at: Cursor) -> Pass
     requires { ⌜ Sound leafLeast (now ws) ⌝ }
     ensures { λ r. ⌜ Admits (now (ws .entry)) at r ⌝ }
@@ -91,7 +91,7 @@ pub fn sound_get(ws: &[u32], tree: u32, key: u32) -> Reply
     }
 }
 
-// Files a value under a key, in place of an earlier one.
+// Files a value under a key, in place of an earlier one, which is told.
 pub fn sound_put(ws: &mut [u32], tree: u32, key: u32, value: u32) -> Reply
     requires { ⌜ Sound leafLeast (now ws) ⌝ }
     ensures { λ r. ⌜ Calls leafLeast (put tree key value) (now (ws .entry)) (now (ws .exit)) (answerOf r) ⌝ }
@@ -102,7 +102,7 @@ pub fn sound_put(ws: &mut [u32], tree: u32, key: u32, value: u32) -> Reply
     }
 }
 
-// Takes a key out, with its value.
+// Takes a key out, and tells its value.
 pub fn sound_remove(ws: &mut [u32], tree: u32, key: u32) -> Reply
     requires { ⌜ Sound leafLeast (now ws) ⌝ }
     ensures { λ r. ⌜ Calls leafLeast (remove tree key) (now (ws .entry)) (now (ws .exit)) (answerOf r) ⌝ }
@@ -110,21 +110,26 @@ pub fn sound_remove(ws: &mut [u32], tree: u32, key: u32) -> Reply
     match gate(ws, tree) {
         Pass::Shut(why) => Reply::Refused(why),
         Pass::Open(t) => {
-            let c = path::find(ws, t, tree, key);
-            let look = path::look_at(ws, t, c);
+            if pool::root(ws, tree) == 0 {
+                return Reply::Nothing;
+            }
+            let foot = path::find_leaf(ws, t, tree, key);
+            let n = foot.node;
+            let at = foot.place;
+            let look = path::look_in(ws, t, n, at);
             let Look::Pair(k, value) = look else {
                 return Reply::Nothing;
             };
             if k != key {
                 return Reply::Nothing;
             }
-            remove::remove(ws, t, c);
+            remove::remove_key(ws, t, tree, key, n, at);
             Reply::Value(value)
         }
     }
 }
 
-// Go to a key, or where it would be put.
+// Go to a key and tell its value, or to where it would be put.
 pub fn sound_seek(ws: &[u32], at: Cursor, key: u32) -> Moved
     requires { ⌜ Sound leafLeast (now ws) ⌝ }
     ensures { λ r. ⌜ Moves leafLeast (to-key key) at (now (ws .entry)) (now (ws .entry)) (answerOf (r .reply)) (r .cursor) ⌝ }
@@ -144,7 +149,7 @@ pub fn sound_seek(ws: &[u32], at: Cursor, key: u32) -> Moved
     }
 }
 
-// Go to the first pair.
+// Go to the first pair, and tell it.
 pub fn sound_first(ws: &[u32], at: Cursor) -> Moved
     requires { ⌜ Sound leafLeast (now ws) ⌝ }
     ensures { λ r. ⌜ Moves leafLeast to-first at (now (ws .entry)) (now (ws .entry)) (answerOf (r .reply)) (r .cursor) ⌝ }
@@ -161,7 +166,7 @@ pub fn sound_first(ws: &[u32], at: Cursor) -> Moved
     }
 }
 
-// From one past a leaf's last entry go to the pair after it.
+// From one past a leaf's last entry go to the pair after it; nothing is told.
 pub fn sound_settle(ws: &[u32], at: Cursor) -> Moved
     requires { ⌜ Stood (now ws) at ⌝ }
     ensures { λ r. ⌜ Moves leafLeast to-settled at (now (ws .entry)) (now (ws .entry)) (answerOf (r .reply)) (r .cursor) ⌝ }
@@ -174,7 +179,7 @@ pub fn sound_settle(ws: &[u32], at: Cursor) -> Moved
     }
 }
 
-// Go to the next pair.
+// Go to the next pair, and tell it; after the last the cursor is off the end.
 pub fn sound_next(ws: &[u32], at: Cursor) -> Moved
     requires { ⌜ Stood (now ws) at ⌝ }
     ensures { λ r. ⌜ Moves leafLeast to-next at (now (ws .entry)) (now (ws .entry)) (answerOf (r .reply)) (r .cursor) ⌝ }
@@ -184,7 +189,7 @@ pub fn sound_next(ws: &[u32], at: Cursor) -> Moved
     moves::seen(ws, t, c)
 }
 
-// Go to the pair before.
+// Go to the pair before, and tell it; on the first pair stay, and tell none.
 pub fn sound_prev(ws: &[u32], at: Cursor) -> Moved
     requires { ⌜ Stood (now ws) at ⌝ }
     ensures { λ r. ⌜ Moves leafLeast to-prev at (now (ws .entry)) (now (ws .entry)) (answerOf (r .reply)) (r .cursor) ⌝ }
@@ -193,7 +198,7 @@ pub fn sound_prev(ws: &[u32], at: Cursor) -> Moved
     moves::prev(ws, t, at)
 }
 
-// Takes out the pair that the cursor is on, and goes to the next.
+// Takes out the pair that the cursor is on, tells its value, and goes to the next; on no pair nothing happens.
 pub fn sound_remove_at(ws: &mut [u32], at: Cursor) -> Moved
     requires { ⌜ Stood (now ws) at ⌝ }
     ensures { λ r. ⌜ Moves leafLeast to-remove at (now (ws .entry)) (now (ws .exit)) (answerOf (r .reply)) (r .cursor) ⌝ }
@@ -225,7 +230,7 @@ pub fn get(ws: &[u32], tree: u32, key: u32) -> Reply
     sound_get(ws, tree, key)
 }
 
-// Files a value under a key, in place of an earlier one.
+// Files a value under a key, in place of an earlier one, which is told.
 pub fn put(ws: &mut [u32], tree: u32, key: u32, value: u32) -> Reply
     ensures { λ r. ⌜ Calls leafLeast (put tree key value) (now (ws .entry)) (now (ws .exit)) (answerOf r) ⌝ }
 {
@@ -235,7 +240,7 @@ pub fn put(ws: &mut [u32], tree: u32, key: u32, value: u32) -> Reply
     sound_put(ws, tree, key, value)
 }
 
-// Takes a key out, with its value.
+// Takes a key out, and tells its value.
 pub fn remove(ws: &mut [u32], tree: u32, key: u32) -> Reply
     ensures { λ r. ⌜ Calls leafLeast (remove tree key) (now (ws .entry)) (now (ws .exit)) (answerOf r) ⌝ }
 {
@@ -245,7 +250,7 @@ pub fn remove(ws: &mut [u32], tree: u32, key: u32) -> Reply
     sound_remove(ws, tree, key)
 }
 
-// Go to a key, or where it would be put.
+// Go to a key and tell its value, or to where it would be put.
 pub fn seek(ws: &[u32], at: Cursor, key: u32) -> Moved
     ensures { λ r. ⌜ Moves leafLeast (to-key key) at (now (ws .entry)) (now (ws .entry)) (answerOf (r .reply)) (r .cursor) ⌝ }
 {
@@ -258,7 +263,7 @@ pub fn seek(ws: &[u32], at: Cursor, key: u32) -> Moved
     sound_seek(ws, at, key)
 }
 
-// Go to the first pair.
+// Go to the first pair, and tell it.
 pub fn first(ws: &[u32], at: Cursor) -> Moved
     ensures { λ r. ⌜ Moves leafLeast to-first at (now (ws .entry)) (now (ws .entry)) (answerOf (r .reply)) (r .cursor) ⌝ }
 {
@@ -271,7 +276,7 @@ pub fn first(ws: &[u32], at: Cursor) -> Moved
     sound_first(ws, at)
 }
 
-// From one past a leaf's last entry go to the pair after it.
+// From one past a leaf's last entry go to the pair after it; nothing is told.
 pub fn settle(ws: &[u32], at: Cursor) -> Moved
     ensures { λ r. ⌜ Moves leafLeast to-settled at (now (ws .entry)) (now (ws .entry)) (answerOf (r .reply)) (r .cursor) ⌝ }
 {
@@ -290,7 +295,7 @@ pub fn settle(ws: &[u32], at: Cursor) -> Moved
     }
 }
 
-// Go to the next pair.
+// Go to the next pair, and tell it; after the last the cursor is off the end.
 pub fn next(ws: &[u32], at: Cursor) -> Moved
     ensures { λ r. ⌜ Moves leafLeast to-next at (now (ws .entry)) (now (ws .entry)) (answerOf (r .reply)) (r .cursor) ⌝ }
 {
@@ -309,7 +314,7 @@ pub fn next(ws: &[u32], at: Cursor) -> Moved
     }
 }
 
-// Go to the pair before.
+// Go to the pair before, and tell it; on the first pair stay, and tell none.
 pub fn prev(ws: &[u32], at: Cursor) -> Moved
     ensures { λ r. ⌜ Moves leafLeast to-prev at (now (ws .entry)) (now (ws .entry)) (answerOf (r .reply)) (r .cursor) ⌝ }
 {
@@ -328,7 +333,7 @@ pub fn prev(ws: &[u32], at: Cursor) -> Moved
     }
 }
 
-// Takes out the pair that the cursor is on, and goes to the next.
+// Takes out the pair that the cursor is on, tells its value, and goes to the next; on no pair nothing happens.
 pub fn remove_at(ws: &mut [u32], at: Cursor) -> Moved
     ensures { λ r. ⌜ Moves leafLeast to-remove at (now (ws .entry)) (now (ws .exit)) (answerOf (r .reply)) (r .cursor) ⌝ }
 {

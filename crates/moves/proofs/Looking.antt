@@ -17,13 +17,16 @@ use Rattle.forest.specs.declared.Cursor.{Cursor}
 use Rattle.forest.specs.declared.Moved.{Moved}
 use Rattle.forest.specs.declared.Reply.the-variants as reply
 use Rattle.forest.proofs.ListLaws.{is, isnt, test, tests}
-use Rattle.path.specs.Levels.{leftBranch}
+use Rattle.path.specs.Levels.{leftBranch, noBranch}
+use Rattle.path.specs.declared.Branch.{Branch}
+use Rattle.path.specs.declared.Branch.the-variants as branch
 use Rattle.path.specs.Cores.{Ready, Of, At, Sees, lookOf}
 use Rattle.path.specs.declared.Look.{Look}
 use Rattle.path.specs.declared.Look.the-variants.{Pair, Nothing}
+use Rattle.path.proofs.Branches.{none-at}
 use Rattle.path.proofs.Seats.{off-is, Seat, seat, leaf-place}
 use Rattle.moves.specs.Moves.{atFirst, Steps, Seen, Back}
-use Rattle.moves.proofs.Neighbours.{above-leaf, no-left, prev-left}
+use Rattle.moves.proofs.Neighbours.{no-left, prev-left}
 use Rattle.moves.proofs.Moving.{moved-tree, moved-at}
 use Rattle.forest.proofs.CursorCalls.{fits-prev}
 
@@ -57,17 +60,21 @@ module _ (c : Cursor) (h : c .size ≡ 0 → ⊥) where
   unfolding atFirst
   first-inside k = simp (lt-ltb 0 (c .size) (omega arith), ne-eqb (getD (c .places) (c .size - 1) 0) 0 k)
 
-  pub first-front : (l : ℕ) → getD (c .places) (c .size - 1) 0 ≡ 0 → l ≡ leftBranch (c .places) (c .size - 1) → eqb l 16 ≡ atFirst c
+  pub first-front : (b : Branch) → getD (c .places) (c .size - 1) 0 ≡ 0 → b ≡ leftBranch (c .places) (c .size - 1) → noBranch b ≡ atFirst c
   unfolding atFirst
-  first-front l k e = rw (lt-ltb 0 (c .size) (omega arith), eq-eqb (getD (c .places) (c .size - 1) 0) 0 k, e)
+  first-front b k e = rw (lt-ltb 0 (c .size) (omega arith), eq-eqb (getD (c .places) (c .size - 1) 0) 0 k, e)
 
-parts : (c : Cursor) → atFirst c ≡ true → (1 ≤ c .size) × (getD (c .places) (c .size - 1) 0 ≡ 0) × (leftBranch (c .places) (c .size - 1) ≡ 16)
+no-branch : (b : Branch) → noBranch b ≡ true → b ≡ branch.Nothing
+no-branch branch.Nothing e = refl
+no-branch (branch.At l) e = absurd (true≢false (sym e))
+
+parts : (c : Cursor) → atFirst c ≡ true → (1 ≤ c .size) × (getD (c .places) (c .size - 1) 0 ≡ 0) × (leftBranch (c .places) (c .size - 1) ≡ branch.Nothing)
 unfolding atFirst
 parts c h = elim (test (ltb 0 (c .size))) [
   | isnt a ↦ absurd (true≢false (sym (simp a at h)))
   | is a ↦ elim (test (eqb (getD (c .places) (c .size - 1) 0) 0)) [
     | isnt b ↦ absurd (true≢false (sym (simp (a, b) at h)))
-    | is b ↦ (ltb-true _ _ a, eqb-true _ _ b, eqb-true _ _ (simp (a, b) at h))
+    | is b ↦ (ltb-true _ _ a, eqb-true _ _ b, no-branch _ (simp (a, b) at h))
   ]
 ]
 
@@ -80,7 +87,7 @@ module _ (ws : List ℕ) (t : ℕ) (c : Cursor) (y : Ready ws t (c .tree)) where
       go u zero k =
           let z : u .e ≡ 0 = sym (leaf-place ws t c p s u) ∙ parts c e .1 in
           u .spot-is ∙ cc
-      go u (suc i) k = absurd (omega (arith, prev-left ws t c y (parts c e .0) p s u i k .above, above-leaf ws t c y (parts c e .0) p s u, u .laid .few, parts c e .2))
+      go u (suc i) k = absurd (none-at _ (sym (parts c e .2) ∙ prev-left ws t c y (parts c e .0) p s u i k .branch))
 
   at-front : (p : Pool) → Of ws p → At p c (on 0 0) → atFirst c ≡ true
   unfolding atFirst
@@ -94,7 +101,7 @@ module _ (ws : List ℕ) (t : ℕ) (c : Cursor) (y : Ready ws t (c .tree)) where
         let q = u .spot-is in
         let i : u .j ≡ 0 = cc in
         let j : u .e ≡ 0 = cc in
-        simp (k, eq-eqb (getD (c .places) (c .size - 1) 0) 0 (leaf-place ws t c p (on 0 0) u ∙ j), eq-eqb (leftBranch (c .places) (c .size - 1)) 16 (no-left ws t c y h p (on 0 0) u i))
+        simp (k, eq-eqb (getD (c .places) (c .size - 1) 0) 0 (leaf-place ws t c p (on 0 0) u ∙ j), no-left ws t c y h p (on 0 0) u i)
   ]
 
   -- elsewhere the pair before is the one at the spot before

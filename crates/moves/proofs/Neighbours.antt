@@ -16,6 +16,7 @@ use Rattle.forest.proofs.RowLaws.{length-items}
 use Rattle.path.specs.Ways.{base, block, descend, Deep, Extends}
 use Rattle.path.specs.Levels.{pushed, cutAt, rightBranch, leftBranch, Safe}
 use Rattle.path.specs.Cores.{Ready, At, Standing}
+use Rattle.path.specs.declared.Branch.the-variants as branch
 use Rattle.path.specs.declared.Way.{Way}
 use Rattle.path.specs.declared.Way.the-variants.{First, Last}
 use Rattle.path.proofs.NodeWords.{land-first, land-last}
@@ -24,7 +25,7 @@ use Rattle.path.proofs.Downward.{leaf-step}
 use Rattle.path.proofs.CursorWords.{push-at, cut-at}
 use Rattle.path.proofs.Steps.{first-word, link-word-at, child-deep}
 use Rattle.path.proofs.Seats.{Seat, seat, pathS, seat-size, seat-node, seat-place, inner-seat, own-pool, own-spot, own-seat, row-is}
-use Rattle.path.proofs.Branches.{right-more, left-more}
+use Rattle.path.proofs.Branches.{right-more, left-more, none-at, at-level}
 use Rattle.moves.specs.Moves.{Level, Turned, Steps, nextLeaf, prevLeaf}
 use Rattle.moves.proofs.Sideways.{Agrees, stepRight, stepLeft, Right, Left, right-some, right-none, left-some, left-none}
 use Rattle.forest.proofs.StandLaws.{length-pathUp}
@@ -61,6 +62,13 @@ module _ (ws : List ℕ) (t : ℕ) (c : Cursor) (y : Ready ws t (c .tree)) (d : 
         deep = e;
       }
 
+  -- the level where the path branches off
+  pub right-level : (l : ℕ) → rightBranch ws t (c .nodes) (c .places) (c .size - 1) ≡ branch.At l → Level ws t c l × (getD (c .places) l 0 + 16 < getD ws (base t (getD (c .nodes) l 0)) 0)
+  right-level l e = let m = right-more ws t (c .nodes) (c .places) (c .size - 1) l e in (level l (m .0), m .1)
+
+  pub left-level : (l : ℕ) → leftBranch (c .places) (c .size - 1) ≡ branch.At l → Level ws t c l × (1 ≤ getD (c .places) l 0)
+  left-level l e = let m = left-more (c .places) (c .size - 1) l e in (level l (m .0), m .1)
+
   pub safe : Safe ws t c (c .size - 1)
   safe = record {
     deep = omega (arith, size-few);
@@ -78,14 +86,6 @@ level-child ws t c l o v m =
 
 pub standing-size : (ws : List ℕ) (t : ℕ) (c : Cursor) → Ready ws t (c .tree) → Standing ws c → c .size ≤ 6
 standing-size ws t c y d = elim (test (ltb 0 (c .size))) [ is e ↦ size-few ws t c y d (ltb-true _ _ e) | isnt e ↦ omega tests ]
-
--- the level that is found
-module _ (ws : List ℕ) (t : ℕ) (c : Cursor) (l : ℕ) (n : l ≡ 16 → ⊥) where
-  pub right-level : l ≡ rightBranch ws t (c .nodes) (c .places) (c .size - 1) → (l < c .size - 1) × (getD (c .places) l 0 + 16 < getD ws (base t (getD (c .nodes) l 0)) 0)
-  right-level e = rw e (right-more ws t (c .nodes) (c .places) (c .size - 1) (λ z. n (e ∙ z)))
-
-  pub left-level : l ≡ leftBranch (c .places) (c .size - 1) → (l < c .size - 1) × (1 ≤ getD (c .places) l 0)
-  left-level e = rw e (left-more (c .places) (c .size - 1) (λ z. n (e ∙ z)))
 
 -- a cursor cut to l levels, a level put on, and more below
 turns : (c d e r : Cursor) (l n p : ℕ) (path more : Path) → c ≡ cursorAt (c .tree) path → l ≤ length path → length path ≤ 16 → l < 16 → d ≡ cutAt c l → e ≡ pushed d n p → Extends e r more →
@@ -137,13 +137,13 @@ module _ (ws : List ℕ) (t : ℕ) (c : Cursor) (y : Ready ws t (c .tree)) (h : 
         ap (λ (x : ℕ). (getD (nums (u .L)) i 0, x) ∷ []) (land-last (itemsAt (u .L) i) ∙ ap (_- 1) (length-items (u .L) i)) in
         rw above-leaf (rw e at g)
 
-    no-right : length (u .L) ≤ suc (u .j) → rightBranch ws t (c .nodes) (c .places) (c .size - 1) ≡ 16
+    no-right : length (u .L) ≤ suc (u .j) → rightBranch ws t (c .nodes) (c .places) (c .size - 1) ≡ branch.Nothing
     no-right k =
         let a = u .laid .few in
         let b = u .inside in
         rw above-leaf (right-none ws t (c .nodes) (c .places) (u .L) (u .Rs) (u .j) ((getD (nums (u .L)) (u .j) 0, u .e) ∷ []) (u .laid .good .2) (u .laid .inner) (omega arith) agrees (omega arith))
 
-    pub no-left : u .j ≡ 0 → leftBranch (c .places) (c .size - 1) ≡ 16
+    pub no-left : u .j ≡ 0 → leftBranch (c .places) (c .size - 1) ≡ branch.Nothing
     no-left k =
         let a = u .laid .few in
         rw above-leaf (left-none ws t (c .nodes) (c .places) (u .L) (u .Rs) (u .j) ((getD (nums (u .L)) (u .j) 0, u .e) ∷ []) (u .laid .good .2) (u .laid .inner) (omega arith) agrees k)
@@ -171,51 +171,53 @@ module _ (ws : List ℕ) (t : ℕ) (c : Cursor) (y : Ready ws t (c .tree)) (h : 
         ap (pathOf (treeOf p (c .tree))) e ∙ tree-row (leafEnd (u .L) i)
 
   -- no level has more to the right
-  pub next-none : (l : ℕ) (r : Cursor) → l ≡ rightBranch ws t (c .nodes) (c .places) (c .size - 1) → l ≡ 16 → r ≡ cursorAt (c .tree) [] → Steps nextLeaf ws c r
-  next-none l r b z e = record {
+  pub next-none : (r : Cursor) → rightBranch ws t (c .nodes) (c .places) (c .size - 1) ≡ branch.Nothing → r ≡ cursorAt (c .tree) [] → Steps nextLeaf ws c r
+  next-none r b e = record {
     to = λ p s o a.
         let u = seat ws t c y h p s o a in
         elim (test (ltb (suc (u .j)) (length (u .L)))) [
           | isnt k ↦ e ∙ ap (cursorAt (c .tree)) (sym (off-path p s u (ltb-false _ _ k)))
-          | is k ↦ absurd (omega (arith, next-right p s u (ltb-true _ _ k) .above, above-leaf p s u, u .laid .few))
+          | is k ↦ absurd (none-at _ (sym b ∙ next-right p s u (ltb-true _ _ k) .branch))
         ];
   }
 
   -- a step to the right at level l
-  pub next-some : (l : ℕ) (r : Cursor) → l ≡ rightBranch ws t (c .nodes) (c .places) (c .size - 1) → (l ≡ 16 → ⊥) → getD (c .places) l 0 < 7 →
+  pub next-some : (l : ℕ) (r : Cursor) → rightBranch ws t (c .nodes) (c .places) (c .size - 1) ≡ branch.At l → getD (c .places) l 0 < 7 →
       Turned First ws t c l (getD (c .places) l 0 + 1) r → Steps nextLeaf ws c r
-  next-some l r b n w q = record {
+  next-some l r b w q = record {
     to = λ p s o a.
         let u = seat ws t c y h p s o a in
         elim (test (ltb (suc (u .j)) (length (u .L)))) [
-          | isnt k ↦ absurd (n (b ∙ no-right p s u (ltb-false _ _ k)))
+          | isnt k ↦ absurd (none-at l (sym (no-right p s u (ltb-false _ _ k)) ∙ b))
           | is k ↦
               let g = next-right p s u (ltb-true _ _ k) in
-              let v : l < c .size - 1 = rw b (g .above) in
-              let m : stepRight ws t (c .nodes) (c .places) (pathS ws t c p s u) l ≡ pathOf (u .L ∷ u .Rs) (on (suc (u .j)) 0) = rw b (g .same) in
+              let x = at-level l (g .at) (sym b ∙ g .branch) in
+              let v : l < c .size - 1 = rw x (g .above) in
+              let m : stepRight ws t (c .nodes) (c .places) (pathS ws t c p s u) l ≡ pathOf (u .L ∷ u .Rs) (on (suc (u .j)) 0) = rw x (g .same) in
               let i = link-word-at ws (base t (getD (c .nodes) l 0)) (getD (c .places) l 0 + 1) (omega arith) in
               (rw (← i) at (q .run (pathS ws t c p s u) (u .same) (omega (arith, above-leaf p s u, long-path p s u)) (omega (arith, u .laid .few, long-path p s u)))) ∙ ap (cursorAt (c .tree)) (m ∙ sym (on-path p s u (ltb-true _ _ k)))
         ];
   }
 
   -- no level has something to the left: the first leaf
-  pub prev-none : (l : ℕ) → l ≡ leftBranch (c .places) (c .size - 1) → l ≡ 16 → Steps prevLeaf ws c c
-  prev-none l b z = record { to = λ p s o a. go p s a (seat ws t c y h p s o a) ((seat ws t c y h p s o a) .j) refl }
+  pub prev-none : leftBranch (c .places) (c .size - 1) ≡ branch.Nothing → Steps prevLeaf ws c c
+  prev-none b = record { to = λ p s o a. go p s a (seat ws t c y h p s o a) ((seat ws t c y h p s o a) .j) refl }
     where
       go : (p : Pool) (s : Spot) → At p c s → (u : Seat ws t p c s) (i : ℕ) → u .j ≡ i → c ≡ cursorAt (c .tree) (pathOf (treeOf p (c .tree)) (prevLeaf (leaves (treeOf p (c .tree))) s))
       go p s a u zero k = sym (ap (λ (v : Spot). cursorAt (c .tree) (pathOf (treeOf p (c .tree)) v)) (first-spot p s u k) ∙ a .same)
-      go p s a u (suc i) k = absurd (omega (arith, prev-left p s u i k .above, above-leaf p s u, u .laid .few))
+      go p s a u (suc i) k = absurd (none-at _ (sym b ∙ prev-left p s u i k .branch))
 
   -- a step to the left at level l
-  pub prev-some : (l : ℕ) (r : Cursor) → l ≡ leftBranch (c .places) (c .size - 1) → (l ≡ 16 → ⊥) → getD (c .places) l 0 < 8 →
+  pub prev-some : (l : ℕ) (r : Cursor) → leftBranch (c .places) (c .size - 1) ≡ branch.At l → getD (c .places) l 0 < 8 →
       Turned Last ws t c l (getD (c .places) l 0 - 1) r → Steps prevLeaf ws c r
-  prev-some l r b n w q = record { to = λ p s o a. go p s (seat ws t c y h p s o a) ((seat ws t c y h p s o a) .j) refl }
+  prev-some l r b w q = record { to = λ p s o a. go p s (seat ws t c y h p s o a) ((seat ws t c y h p s o a) .j) refl }
     where
       go : (p : Pool) (s : Spot) (u : Seat ws t p c s) (i : ℕ) → u .j ≡ i → r ≡ cursorAt (c .tree) (pathOf (treeOf p (c .tree)) (prevLeaf (leaves (treeOf p (c .tree))) s))
-      go p s u zero k = absurd (n (b ∙ no-left p s u k))
+      go p s u zero k = absurd (none-at l (sym (no-left p s u k) ∙ b))
       go p s u (suc i) k =
           let g = prev-left p s u i k in
-          let v : l < c .size - 1 = rw b (g .above) in
-          let m : stepLeft ws t (c .nodes) (c .places) (pathS ws t c p s u) l ≡ pathOf (u .L ∷ u .Rs) (leafEnd (u .L) i) = rw b (g .same) in
+          let x = at-level l (g .at) (sym b ∙ g .branch) in
+          let v : l < c .size - 1 = rw x (g .above) in
+          let m : stepLeft ws t (c .nodes) (c .places) (pathS ws t c p s u) l ≡ pathOf (u .L ∷ u .Rs) (leafEnd (u .L) i) = rw x (g .same) in
           let j = link-word-at ws (base t (getD (c .nodes) l 0)) (getD (c .places) l 0 - 1) (omega arith) in
           (rw (← j) at (q .run (pathS ws t c p s u) (u .same) (omega (arith, above-leaf p s u, long-path p s u)) (omega (arith, u .laid .few, long-path p s u)))) ∙ ap (cursorAt (c .tree)) (m ∙ sym (back-path p s u i k))

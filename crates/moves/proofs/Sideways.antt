@@ -15,6 +15,7 @@ use Rattle.forest.proofs.RowLaws.{length-items}
 use Rattle.forest.proofs.TowerLaws.{tower-some}
 use Rattle.path.specs.Ways.{block, descend}
 use Rattle.path.specs.Levels.{rightBranch, leftBranch}
+use Rattle.path.specs.declared.Branch.the-variants.{At, Nothing}
 use Rattle.path.specs.declared.Way.the-variants.{First, Last}
 use Rattle.path.proofs.NodeWords.{turn-last, turn-first, Grouped, grouped-at, sum-all, group-end}
 use Rattle.path.proofs.Laid.{RowIn, RowsIn, size-bounds, Stood, stood, children, child-at, parent-in, offset-in, inner-first}
@@ -106,12 +107,16 @@ module _ (ws : List ℕ) (t : ℕ) (ns ps : List ℕ) where
       take l path ++ (getD ns l 0, getD ps l 0 - 1) ∷ descend Last (15 - l) ws t (getD (block ws t (getD ns l 0)) (8 + (getD ps l 0 - 1)) 0)
 
   pub record Right (level : ℕ) (path other : Path) : Type 0 where
-    pub above : rightBranch ws t ns ps level < level
-    pub same : stepRight path (rightBranch ws t ns ps level) ≡ other
+    pub at : ℕ
+    pub branch : rightBranch ws t ns ps level ≡ At at
+    pub above : at < level
+    pub same : stepRight path at ≡ other
 
   pub record Left (level : ℕ) (path other : Path) : Type 0 where
-    pub above : leftBranch ps level < level
-    pub same : stepLeft path (leftBranch ps level) ≡ other
+    pub at : ℕ
+    pub branch : leftBranch ps level ≡ At at
+    pub above : at < level
+    pub same : stepLeft path at ≡ other
 
   -- the level of S, above that of R
   module _ (R S : Row) (Ss : List Row) (w : Tower R (S ∷ Ss)) (r : RowIn innerWords ws t S) (i : ℕ) (h : i < length R) (below : Path) (few : length Ss < 16)
@@ -137,7 +142,7 @@ module _ (ws : List ℕ) (t : ℕ) (ns ps : List ℕ) where
         let q = parent-in R S st i h in
         rw (own-node, r .are (parent (sizes S) i) q, e) (child-at R S st (parent (sizes S) i) o q b)
 
-    branch-here : suc (offset (sizes S) i) < getD (sizes S) (parent (sizes S) i) 0 → rightBranch ws t ns ps (suc (length Ss)) ≡ length Ss
+    branch-here : suc (offset (sizes S) i) < getD (sizes S) (parent (sizes S) i) 0 → rightBranch ws t ns ps (suc (length Ss)) ≡ At (length Ss)
     unfolding rightBranch
     branch-here k = simp (lt-ltb (getD ps (length Ss) 0 + 16) (getD (block ws t (getD ns (length Ss) 0)) 0 0) (omega (arith, own-first, own-place)))
 
@@ -145,7 +150,7 @@ module _ (ws : List ℕ) (t : ℕ) (ns ps : List ℕ) where
     unfolding rightBranch
     branch-above k = simp (le-ltb (getD ps (length Ss) 0 + 16) (getD (block ws t (getD ns (length Ss) 0)) 0 0) (omega (arith, own-first, own-place)))
 
-    left-here : 1 ≤ offset (sizes S) i → leftBranch ps (suc (length Ss)) ≡ length Ss
+    left-here : 1 ≤ offset (sizes S) i → leftBranch ps (suc (length Ss)) ≡ At (length Ss)
     unfolding leftBranch
     left-here k = simp (ne-eqb (getD ps (length Ss) 0) 0 (λ (z : getD ps (length Ss) 0 ≡ 0). omega (arith, own-place)))
 
@@ -184,10 +189,11 @@ module _ (ws : List ℕ) (t : ℕ) (ns ps : List ℕ) where
       let s = stood R S Ss w in
       elim (test (ltb (suc (offset (sizes S) i)) (getD (sizes S) (parent (sizes S) i) 0))) [
         | is c ↦
-            let b = branch-here R S Ss w (r .0) i (omega arith) below (omega arith) a (ltb-true _ _ c) in
             record {
-              above = rw b (omega arith);
-              same = rw b (right-step R S Ss w (r .0) i (omega arith) below (omega arith) a f z (ltb-true _ _ c));
+              at = length Ss;
+              branch = branch-here R S Ss w (r .0) i (omega arith) below (omega arith) a (ltb-true _ _ c);
+              above = omega arith;
+              same = right-step R S Ss w (r .0) i (omega arith) below (omega arith) a f z (ltb-true _ _ c);
             }
         | isnt c ↦
             let b = branch-above R S Ss w (r .0) i (omega arith) below (omega arith) a (ltb-false _ _ c) in
@@ -197,13 +203,15 @@ module _ (ws : List ℕ) (t : ℕ) (ns ps : List ℕ) where
             let d = step-to ws t First f R S s (r .0) (suc (parent (sizes S) i)) 0 (suc i) q (some-at R S s (suc (parent (sizes S) i)) q) e (turn-first (innerWords (itemsAt S (suc (parent (sizes S) i))))) in
             let ih = right-some S Ss (parent (sizes S) i) (suc f) ((getD (nums S) (parent (sizes S) i) 0, offset (sizes S) i) ∷ below) (w .3) (r .1) (omega arith) (omega arith) a q in
             record {
-              above = rw b (omega (arith, ih .above));
-              same = rw (b, g .group, g .place) (ih .same ∙ ap (pathUp (suc (parent (sizes S) i)) Ss) d);
+              at = ih .at;
+              branch = b ∙ ih .branch;
+              above = omega (arith, ih .above);
+              same = rw (g .group, g .place) (ih .same ∙ ap (pathUp (suc (parent (sizes S) i)) Ss) d);
             }
       ]
 
   pub right-none : (R : Row) (Rs : List Row) (i : ℕ) (below : Path) → Tower R Rs → RowsIn ws t Rs → length Rs < 16 → Agrees (pathUp i Rs below) → suc i ≡ length R →
-      rightBranch ws t ns ps (length Rs) ≡ 16
+      rightBranch ws t ns ps (length Rs) ≡ Nothing
   unfolding rightBranch
   right-none R [] i below w r few a h = refl
   right-none R (S ∷ Ss) i below w r few a h =
@@ -220,8 +228,12 @@ module _ (ws : List ℕ) (t : ℕ) (ns ps : List ℕ) where
       elim (test (eqb (offset (sizes S) i) 0)) [
         | isnt c ↦
             let o : 1 ≤ offset (sizes S) i = omega tests in
-            let b = left-here R S Ss w (r .0) i h below (omega arith) a o in
-            record { above = rw b (omega arith); same = rw b (left-step R S Ss w (r .0) i h below (omega arith) a f k z e o) }
+            record {
+              at = length Ss;
+              branch = left-here R S Ss w (r .0) i h below (omega arith) a o;
+              above = omega arith;
+              same = left-step R S Ss w (r .0) i h below (omega arith) a f k z e o;
+            }
         | is c ↦
             let o : offset (sizes S) i ≡ 0 = eqb-true _ _ c in
             let b = left-above R S Ss w (r .0) i h below (omega arith) a o in
@@ -234,12 +246,14 @@ module _ (ws : List ℕ) (t : ℕ) (ns ps : List ℕ) where
             let ih = left-some S Ss (parent (sizes S) i) (parent (sizes S) i - 1) (suc f) ((getD (nums S) (parent (sizes S) i) 0, offset (sizes S) i) ∷ below) (w .3) (r .1) (omega arith) (omega arith) a
             (back-some R S s i k e h o) p in
             record {
-              above = rw b (omega (arith, ih .above));
-              same = rw (b, g .group, g .place) (ih .same ∙ ap (pathUp (parent (sizes S) i - 1) Ss) d);
+              at = ih .at;
+              branch = b ∙ ih .branch;
+              above = omega (arith, ih .above);
+              same = rw (g .group, g .place) (ih .same ∙ ap (pathUp (parent (sizes S) i - 1) Ss) d);
             }
       ]
 
-  pub left-none : (R : Row) (Rs : List Row) (i : ℕ) (below : Path) → Tower R Rs → RowsIn ws t Rs → length Rs < 16 → Agrees (pathUp i Rs below) → i ≡ 0 → leftBranch ps (length Rs) ≡ 16
+  pub left-none : (R : Row) (Rs : List Row) (i : ℕ) (below : Path) → Tower R Rs → RowsIn ws t Rs → length Rs < 16 → Agrees (pathUp i Rs below) → i ≡ 0 → leftBranch ps (length Rs) ≡ Nothing
   unfolding leftBranch
   left-none R [] i below w r few a h = refl
   left-none R (S ∷ Ss) i below w r few a h =

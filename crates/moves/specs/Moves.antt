@@ -5,6 +5,7 @@ use mathlib.Core.Bool.{Bool, _&&_}
 use Prim.Native.Nat.{ℕ, zero, suc, _+_, _-_, _≤_, _<_}
 use lib.ListN.{length, take, getD, set}
 use lib.Dec.{ltb, eqb}
+use Rattle.forest.specs.Sizes.{mostTrees, mostNodes}
 use Rattle.forest.specs.Cursors.{Path, cursorAt, Spot, off, on, leaves, pairAt, leafStart, leafEnd, pathOf, prev, prevPair}
 use Rattle.forest.specs.declared.Cursor.{Cursor}
 use Rattle.forest.specs.Rows.{Row}
@@ -13,7 +14,7 @@ use Rattle.forest.specs.Answers.{answerOf, told}
 use Rattle.forest.specs.declared.Moved.{Moved}
 use Rattle.path.specs.declared.Way.{Way}
 use Rattle.path.specs.Ways.{Deep, descend, base}
-use Rattle.path.specs.Levels.{leftBranch}
+use Rattle.path.specs.Levels.{leftBranch, noBranch}
 use Rattle.path.specs.Cores.{Of, At}
 
 -- the cursor with another place at level l
@@ -22,18 +23,18 @@ entered c l p = record { tree = c .tree; size = c .size; nodes = c .nodes; place
 
 -- is a cursor at the first entry of its tree
 unfoldable pub atFirst : Cursor → Bool
-atFirst c = ltb 0 (c .size) && (eqb (getD (c .places) (c .size - 1) 0) 0 && eqb (leftBranch (c .places) (c .size - 1)) 16)
+atFirst c = ltb 0 (c .size) && (eqb (getD (c .places) (c .size - 1) 0) 0 && noBranch (leftBranch (c .places) (c .size - 1)))
 
 -- level l of a cursor is an inner node with a child at its place; every way down from it stays in the words
 pub record Level (ws : List ℕ) (t : ℕ) (c : Cursor) (l : ℕ) : Type 0 where
   pub above : l < 5
   pub some : 1 ≤ getD (c .nodes) l 0
-  pub few : getD (c .nodes) l 0 ≤ 512
+  pub few : getD (c .nodes) l 0 ≤ mostNodes
   pub long : base t (getD (c .nodes) l 0) + 16 ≤ length ws
   pub least : 16 ≤ getD ws (base t (getD (c .nodes) l 0)) 0
   pub most : getD ws (base t (getD (c .nodes) l 0)) 0 ≤ 23
   pub place : getD (c .places) l 0 + 16 ≤ getD ws (base t (getD (c .nodes) l 0)) 0
-  pub trees : t ≤ 32
+  pub trees : t ≤ mostTrees
   pub deep : (f : ℕ) → Deep f ws t (getD (c .nodes) l 0)
 
 -- cursor r has the levels of c above l, child `place` of its node at l, and the way down from there

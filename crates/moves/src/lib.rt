@@ -2,6 +2,7 @@
 ghost use mathlib.Core.Path.{_≡_};
 ghost use Prim.Native.Nat.{_+_, _-_, _≤_, _<_};
 ghost use lib.ListN.{getD};
+ghost use Rattle.forest.specs.Sizes.{mostTrees, mostLevels};
 ghost use Rattle.forest.specs.Cursors.{settle, next, prev};
 ghost use Rattle.path.specs.declared.Way.{Way};
 ghost use Rattle.path.specs.Ways.{base, descend, Deep, Extends};
@@ -10,6 +11,7 @@ ghost use Rattle.moves.specs.Moves.{Level, Turned, entered, atFirst, Ste
 use forest::Cursor;
 use forest::Moved;
 use forest::Reply;
+use path::Branch;
 use path::Look;
 use path::Way;
 
@@ -27,42 +29,40 @@ fn branch_off(ws: &[u32], t: usize, way: Way, c: Cursor, l: usize, place: usize)
 }
 
 // Go to the first pair of the next leaf, or off the end if there is none.
-pub fn next_node(ws: &[u32], t: usize, c: Cursor) -> Cursor
+fn next_node(ws: &[u32], t: usize, c: Cursor) -> Cursor
     requires { ⌜ Ready (now ws) t (c .tree) ⌝ }
     requires { ⌜ Standing (now ws) c ⌝ }
     requires { ⌜ 1 ≤ c .size ⌝ }
     ensures { λ r. ⌜ Steps nextLeaf (now (ws .entry)) c r ⌝ }
 {
     let size = c.size as usize;
-    let l = path::right_sibling_branch_level(ws, t, c, size - 1);
-    if l == 16 {
+    let Branch::At(l) = path::right_sibling_branch_level(ws, t, c, size - 1) else {
         return path::off_end(c.tree);
-    }
+    };
     let place = c.places[l] as usize + 1;
     branch_off(ws, t, Way::First, c, l, place)
 }
 
 // Go to the last entry below a node.
-pub fn goto_subtree_last(ws: &[u32], t: usize, c: Cursor, node: u32, left: usize) -> Cursor
+fn goto_subtree_last(ws: &[u32], t: usize, c: Cursor, node: u32, left: usize) -> Cursor
     requires { ⌜ Deep left (now ws) t node ⌝ }
-    requires { ⌜ (t ≤ 32) × (c .size + left ≤ 16) ⌝ }
+    requires { ⌜ (t ≤ mostTrees) × (c .size + left ≤ mostLevels) ⌝ }
     ensures { λ r. ⌜ Extends c r (descend Way.Last left (now (ws .entry)) t node) ⌝ }
 {
     path::down(ws, t, Way::Last, c, node, left)
 }
 
 // Go to the last pair of the leaf before; in the first leaf stay.
-pub fn prev_leaf(ws: &[u32], t: usize, c: Cursor) -> Cursor
+fn prev_leaf(ws: &[u32], t: usize, c: Cursor) -> Cursor
     requires { ⌜ Ready (now ws) t (c .tree) ⌝ }
     requires { ⌜ Standing (now ws) c ⌝ }
     requires { ⌜ 1 ≤ c .size ⌝ }
     ensures { λ r. ⌜ Steps prevLeaf (now (ws .entry)) c r ⌝ }
 {
     let size = c.size as usize;
-    let l = path::left_sibling_branch_level(c, size - 1);
-    if l == 16 {
+    let Branch::At(l) = path::left_sibling_branch_level(c, size - 1) else {
         return c;
-    }
+    };
     let place = c.places[l] as usize - 1;
     branch_off(ws, t, Way::Last, c, l, place)
 }
@@ -139,8 +139,10 @@ fn at_first_entry(c: Cursor) -> bool
     if entry != 0 {
         return false;
     }
-    let l = path::left_sibling_branch_level(c, size - 1);
-    l == 16
+    match path::left_sibling_branch_level(c, size - 1) {
+        Branch::At(_) => false,
+        Branch::Nothing => true,
+    }
 }
 
 // Go to the pair before; from off the end to the last pair; on the first pair stay.

@@ -11,11 +11,11 @@ use Rattle.forest.specs.Pairs.{Item}
 use Rattle.forest.specs.Rows.{front}
 use Rattle.forest.specs.Pools.{leafWords, innerWords}
 use Rattle.forest.specs.Slices.{inserted}
-use Rattle.forest.proofs.CountLaws.{length-pad}
+use Rattle.forest.proofs.CountLaws.{length-pad, getD-pad}
 use Rattle.forest.proofs.ListLaws.{length-insertAt, length-removeAt, map-append, map-take, map-drop, map-insertAt, map-removeAt}
 use Rattle.node.specs.Nodes.{tabulate, leafPairs, innerItems, innerItem, Leaf, Inner, rekeyAt, itemsOf}
 use Rattle.node.specs.declared.items.Items.{Items}
-use Rattle.node.proofs.Pads.{pad-take, pad-drop, pad-more, pad-at, inserted-pad, removed-pad, part-pad, append-pad}
+use Rattle.node.proofs.Pads.{pad-take, pad-drop, pad-more, inserted-pad, removed-pad, part-pad, append-pad}
 use Rattle.node.proofs.Words.{keysOf, linksOf, length-pairs, length-items}
 
 abbrev keyOf : Item → ℕ
@@ -93,7 +93,7 @@ rekey-items items k xs e h = ap (λ (i : Items). record { count = i .count; keys
     first (x ∷ xs) h = refl
 
 pub key-items : (items : Items) (at : ℕ) (xs : List Item) → at < 16 → items ≡ itemsOf xs → getD (items .keys) at 0 ≡ front (drop at xs)
-key-items items at xs h e = ap (λ (i : Items). getD (i .keys) at 0) e ∙ pad-at 16 at (keysOf xs) h ∙ first at xs
+key-items items at xs h e = ap (λ (i : Items). getD (i .keys) at 0) e ∙ getD-pad 16 (keysOf xs) at h ∙ first at xs
   where
     first : (at : ℕ) (xs : List Item) → getD (keysOf xs) at 0 ≡ front (drop at xs)
     first zero [] = refl

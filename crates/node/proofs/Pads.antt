@@ -52,13 +52,6 @@ pad-part (suc m) from (suc n) [] h l = absurd (omega arith)
 pad-part (suc m) zero (suc n) (x ∷ xs) h l = ap (x ∷_) (pad-part m 0 n xs (omega arith) (omega arith))
 pad-part (suc m) (suc from) (suc n) (x ∷ xs) h l = pad-part m from (suc n) xs (omega arith) (omega arith)
 
-pub pad-at : (n i : ℕ) (xs : List ℕ) → i < n → getD (pad n xs) i 0 ≡ getD xs i 0
-pad-at zero i xs h = absurd (omega arith)
-pad-at (suc n) zero [] h = refl
-pad-at (suc n) zero (x ∷ xs) h = refl
-pad-at (suc n) (suc i) [] h = pad-at n i [] (omega arith)
-pad-at (suc n) (suc i) (x ∷ xs) h = pad-at n i xs (omega arith)
-
 pad-insert : (n i x : ℕ) (xs : List ℕ) → i ≤ length xs → i < n → take n (insertAt i x (pad n xs)) ≡ pad n (insertAt i x xs)
 pad-insert zero i x xs h l = absurd (omega arith)
 pad-insert (suc n) zero x xs h l = ap (x ∷_) (pad-take n (suc n) xs (omega arith))

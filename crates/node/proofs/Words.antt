@@ -4,17 +4,14 @@ use mathlib.Core.List.{List, [], _∷_, _++_, map}
 use Prim.Native.Nat.{ℕ, zero, suc, _+_, _-_, _≤_, _<_}
 use native.Mathlib.Omega.{arith}
 use native.Mathlib.Nat.{zero-add, suc-add}
-use lib.ListN.{length, take, drop, getD, List·getD-append, List·getD-map}
-use lib.Seq.{getD-append-add}
-use borrow.Author.Tests.{le-leb, lt-leb}
-use Rattle.forest.specs.Lists.{insertAt, removeAt, pad}
+use lib.ListN.{length, take, drop, getD, List·getD-map}
+use Rattle.forest.specs.Lists.{insertAt, removeAt}
 use Rattle.forest.specs.Pairs.{Item}
 use Rattle.forest.specs.Rows.{front}
 use Rattle.forest.specs.Pools.{leafWords, innerWords}
-use Rattle.forest.proofs.CountLaws.{length-pad}
+use Rattle.forest.proofs.WordLaws.{key-word, link-word}
 use Rattle.forest.proofs.ListLaws.{cons-eq}
-use Rattle.node.specs.Nodes.{tabulate, leafItem, leafPairs, innerItem, innerItems, Leaf, Inner, entriesOf, rekeyAt}
-use Rattle.node.proofs.Pads.{pad-at}
+use Rattle.node.specs.Nodes.{tabulate, leafItem, leafPairs, innerItem, innerItems, Leaf, Inner, rekeyAt}
 
 abbrev pub keysOf : List Item → List ℕ
 keysOf xs = map (λ (x : Item). x .0) xs
@@ -82,16 +79,7 @@ pub rekey-back : (k : ℕ) (xs : List Item) → rekeyAt 0 (front xs) (rekeyAt 0 
 rekey-back k [] = refl
 rekey-back k (x ∷ xs) = refl
 
--- word t of the keys' section and of the links'
-module _ (a : ℕ) (ks ls : List ℕ) (t : ℕ) where
-  key-word : t < 7 → getD (a ∷ (pad 7 ks ++ pad 8 ls)) (suc t) 0 ≡ getD ks t 0
-  key-word h = List·getD-append (pad 7 ks) (pad 8 ls) 0 t (omega (arith, length-pad 7 ks)) ∙ pad-at 7 t ks h
-
-  link-word : t < 8 → getD (a ∷ (pad 7 ks ++ pad 8 ls)) (8 + t) 0 ≡ getD ls t 0
-  link-word h =
-      let e : 8 + t ≡ suc (length (pad 7 ks) + t) = omega (arith, length-pad 7 ks) in
-      rw e (getD-append-add (pad 7 ks) (pad 8 ls) t 0 ∙ pad-at 8 t ls h)
-
+-- keys and links, one by one
 key-at : (xs : List Item) (t : ℕ) → getD (keysOf xs) t 0 ≡ getD xs t (0, 0) .0
 key-at xs t = List·getD-map (λ (x : Item). x .0) xs t (0, 0)
 
@@ -161,18 +149,3 @@ pub inner-is : (xs : List Item) → 1 ≤ length xs → length xs ≤ 8 → Inne
 inner-is xs h l = record { some = omega arith; few = omega arith; same = ap innerWords (inner-items xs h l) ∙ inner-first 0 xs }
 
 -- the number of entries
-pub leaf-entries : (w : List ℕ) → 32 ≤ getD w 0 0 → entriesOf w ≡ getD w 0 0 - 32
-unfolding entriesOf
-leaf-entries w h = simp (le-leb 32 (getD w 0 0) h)
-
-pub inner-entries : (w : List ℕ) → getD w 0 0 < 32 → entriesOf w ≡ getD w 0 0 - 15
-unfolding entriesOf
-inner-entries w h = simp (lt-leb 32 (getD w 0 0) h)
-
--- a child, and a leaf's first key, by the words
-pub child-at : (w : List ℕ) (t : ℕ) → getD w (8 + t) 0 ≡ innerItem w t .1
-child-at w zero = refl
-child-at w (suc t) = refl
-
-pub crit-key : (w : List ℕ) → Leaf w → getD w 1 0 ≡ front (leafPairs w)
-crit-key w leaf = ap (λ (v : List ℕ). getD v 1 0) (sym (leaf .same)) ∙ leaf-front (leafPairs w)

@@ -21,18 +21,20 @@ abbrev pub tabulate : (ℕ → Item) → ℕ → ℕ → List Item
 tabulate f i zero = []
 tabulate f i (suc n) = f i ∷ tabulate f (suc i) n
 
--- the pairs of a leaf's words
+-- pair i of a leaf's words
 abbrev pub leafItem : List ℕ → ℕ → Item
 leafItem w i = (getD w (1 + i) 0, getD w (8 + i) 0)
 
+-- the pairs of a leaf's words
 abbrev pub leafPairs : List ℕ → List Item
 leafPairs w = tabulate (leafItem w) 0 (getD w 0 0 - 32)
 
--- the items of an inner node's words; the first key is stored nowhere and reads 0
+-- item i of an inner node's words; the first key is stored nowhere and reads 0
 abbrev pub innerItem : List ℕ → ℕ → Item
 innerItem w zero = (0, getD w 8 0)
 innerItem w (suc i) = (getD w (suc i) 0, getD w (8 + suc i) 0)
 
+-- the items of an inner node's words
 abbrev pub innerItems : List ℕ → List Item
 innerItems w = tabulate (innerItem w) 0 (getD w 0 0 - 15)
 
@@ -48,10 +50,6 @@ pub record Inner (w : List ℕ) : Type 0 where
   pub few : getD w 0 0 ≤ 23
   pub same : innerWords (innerItems w) ≡ w
 
--- the number of pairs of a leaf, of children of an inner node
-unfoldable pub entriesOf : List ℕ → ℕ
-entriesOf w = cond (leb 32 (getD w 0 0)) (getD w 0 0 - 32) (getD w 0 0 - 15)
-
 -- the key of item i becomes k
 abbrev pub rekeyAt : ℕ → ℕ → List Item → List Item
 rekeyAt i k [] = []
@@ -64,10 +62,11 @@ statusOf c place left =
     cond (leb c (2 * left)) (cond (eqb place left) Rightmost Healthy)
     (cond (ltb 0 left) Underflow Empty)
 
--- the words of a node that lost its item at place o: sixteen zeros if it was the last one
+-- the words of a leaf that lost its item at place o: sixteen zeros if it was the last one
 unfoldable pub leafCut : List ℕ → ℕ → List ℕ
 leafCut w o = cond (eqb (getD w 0 0) 33) (pad 16 []) (leafWords (removeAt o (leafPairs w)))
 
+-- and those of an inner node
 unfoldable pub innerCut : List ℕ → ℕ → List ℕ
 innerCut w o = cond (eqb (getD w 0 0) 16) (pad 16 []) (innerWords (removeAt o (innerItems w)))
 

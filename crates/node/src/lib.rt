@@ -7,9 +7,9 @@ ghost use lib.Dec.{leb};
 ghost use mathlib.Core.Bool.{cond};
 ghost use Rattle.forest.specs.Lists.{insertAt};
 ghost use Rattle.forest.specs.Pairs.{Item};
-ghost use Rattle.forest.specs.Rows.{front, keeps};
+ghost use Rattle.forest.specs.Rows.{keeps};
 ghost use Rattle.forest.specs.Pools.{leafWords, innerWords};
-ghost use Rattle.node.specs.Nodes.{Leaf, Inner, leafPairs, innerItems, leafItem, innerItem, entriesOf, rekeyAt, statusOf, leafCut, innerCut, splitOf, balanceOf, itemsOf};
+ghost use Rattle.node.specs.Nodes.{Leaf, Inner, leafPairs, innerItems, rekeyAt, statusOf, leafCut, innerCut, splitOf, balanceOf, itemsOf};
 
 pub mod items;
 
@@ -33,7 +33,7 @@ pub enum Removed {
     Empty,
 }
 
-// A full node with one entry more, in two: the right half's first key, whether the entry is in the right half, and its place there.
+// A full node with one entry more, in two: the right half's first key, whether the entry is in the right half, and its place in its half.
 pub struct SplitOff {
     pub left: [u32; 16],
     pub right: [u32; 16],
@@ -61,65 +61,6 @@ fn wide(x: u32) -> usize
     ensures { λ r. ⌜ r ≡ x ⌝ }
 {
     x as usize
-}
-
-// Is this a leaf?
-pub fn is_leaf(w: [u32; 16]) -> bool
-    ensures { λ r. ⌜ r ≡ leb 32 (getD w 0 0) ⌝ }
-{
-    32 <= w[0]
-}
-
-// The number of children of an inner node, of pairs of a leaf.
-pub fn entries(w: [u32; 16]) -> usize
-    requires { ⌜ 16 ≤ getD w 0 0 ⌝ }
-    ensures { λ r. ⌜ r ≡ entriesOf w ⌝ }
-{
-    let kind = w[0];
-    if 32 <= kind {
-        return wide(kind - 32);
-    }
-    wide(kind - 15)
-}
-
-// The key of a leaf's pair.
-pub fn leaf_key(w: [u32; 16], at: usize) -> u32
-    requires { ⌜ at < 7 ⌝ }
-    ensures { λ r. ⌜ r ≡ leafItem w at .0 ⌝ }
-{
-    w[1 + at]
-}
-
-// The value of a leaf's pair.
-pub fn leaf_value(w: [u32; 16], at: usize) -> u32
-    requires { ⌜ at < 7 ⌝ }
-    ensures { λ r. ⌜ r ≡ leafItem w at .1 ⌝ }
-{
-    w[8 + at]
-}
-
-// The critical key of a leaf: its first.
-pub fn leaf_crit_key(w: [u32; 16]) -> u32
-    requires { ⌜ Leaf w ⌝ }
-    ensures { λ r. ⌜ r ≡ front (leafPairs w) ⌝ }
-{
-    w[1]
-}
-
-// The key between children `at` and `at + 1` of an inner node.
-pub fn inner_key(w: [u32; 16], at: usize) -> u32
-    requires { ⌜ at < 7 ⌝ }
-    ensures { λ r. ⌜ r ≡ innerItem w (suc at) .0 ⌝ }
-{
-    w[1 + at]
-}
-
-// A child of an inner node.
-pub fn inner_child(w: [u32; 16], at: usize) -> u32
-    requires { ⌜ at < 8 ⌝ }
-    ensures { λ r. ⌜ r ≡ innerItem w at .1 ⌝ }
-{
-    w[8 + at]
 }
 
 // An inner node with a single key and two children.

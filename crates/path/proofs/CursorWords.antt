@@ -12,7 +12,7 @@ use Rattle.forest.specs.Cursors.{Path, cursorAt}
 use Rattle.forest.proofs.ListLaws.{map-take}
 use Rattle.path.specs.Ways.{Extends}
 use Rattle.path.specs.Levels.{pushed, cutAt}
-use Rattle.path.proofs.NodeWords.{getD-pad}
+use Rattle.forest.proofs.CountLaws.{getD-pad}
 
 module _ (f : ℕ × ℕ → ℕ) where
   set-pad : (m : ℕ) (path : Path) (q : ℕ × ℕ) → length path < m → set (pad m (map f path)) (length path) (f q) ≡ pad m (map f (path ++ q ∷ []))
@@ -51,13 +51,6 @@ node-at t path l h = getD-pad mostLevels (map (λ (q : ℕ × ℕ). q .0) path) 
 
 pub place-at : (t : ℕ) (path : Path) (l : ℕ) → l < 16 → getD ((cursorAt t path) .places) l 0 ≡ (getD path l (0, 0)) .1
 place-at t path l h = getD-pad mostLevels (map (λ (q : ℕ × ℕ). q .1) path) l h ∙ List·getD-map (λ (q : ℕ × ℕ). q .1) path l (0, 0)
-
--- the front of a list, one word more
-pub front-more : (n : ℕ) (xs : List ℕ) (i : ℕ) → i < n → i < length xs → set (pad n (take i xs)) i (getD xs i 0) ≡ pad n (take (suc i) xs)
-front-more zero xs i h k = absurd (omega arith)
-front-more (suc n) [] i h k = absurd (omega arith)
-front-more (suc n) (x ∷ xs) zero h k = refl
-front-more (suc n) (x ∷ xs) (suc i) h k = ap (x ∷_) (front-more n xs i (omega arith) (omega arith))
 
 -- Levels put below
 

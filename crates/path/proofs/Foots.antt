@@ -11,14 +11,14 @@ use Rattle.forest.specs.Slices.{KeysRise}
 use Rattle.forest.specs.declared.Cursor.{Cursor}
 use Rattle.forest.proofs.ListLaws.{is, isnt, test}
 use Rattle.path.specs.Ways.{base, block, keysOf, turnOf, landOf, descend, footOf, Extends}
-use Rattle.path.specs.Cores.{Ready, Goes, Standing, Looks, lookOf}
-use Rattle.path.specs.declared.Look.the-variants.{Pair, Nothing}
+use Rattle.path.specs.Cores.{Ready, Goes, Standing, LeafIn, lookIn, Ends, Looks, lookOf}
+use Rattle.path.specs.declared.Look.the-variants.{Nothing}
 use Rattle.path.specs.declared.Way.{Way}
 use Rattle.path.specs.declared.Way.the-variants.{Key}
 use Rattle.path.proofs.Steps.{first-word, link-word-at}
 use Rattle.path.proofs.CursorWords.{node-at, place-at}
 use Rattle.path.proofs.Roots.{goes-seek, goes-empty}
-use Rattle.path.proofs.Seats.{Leafy, leafy, seat, leaf-node, leaf-place, look-pair, look-none, off-spot}
+use Rattle.path.proofs.Seats.{Leafy, leafy, leaf-in, seat, looked, off-spot}
 use Rattle.path.proofs.Made.{fits-seek, gone-standing}
 
 -- the last level of a path
@@ -122,30 +122,35 @@ module _ (ws : List ℕ) (t tree : ℕ) (y : Ready ws t tree) (k : ℕ) where
       made-place = place-at tree way-down (length way-down - 1) (omega (arith, made-leafy .deep)) ∙ ap (λ (q : ℕ × ℕ). q .1) made-last ∙ ap (λ (m : ℕ). landOf (Key k) (block ws t m)) (sym f)
 
       -- the leaf, as code that reads it needs it
-      pub foot-leafy : (1 ≤ n) × (n ≤ 512) × (base t n + 16 ≤ length ws) × (33 ≤ getD ws (base t n) 0) × (getD ws (base t n) 0 ≤ 39) × (t ≤ 32) × KeysRise (keysOf 32 (block ws t n))
-      foot-leafy =
-          let l = made-leafy in
-          rw (← made-node) (l .some, l .few, l .long, l .least, l .most, l .trees, l .rise)
+      pub foot-in : LeafIn ws t n
+      foot-in = rw (← made-node) (leaf-in ws t made made-leafy)
 
-      module _ (e : ℕ) (g : e ≡ landOf (Key k) (block ws t n)) where
-        pub looks-pair : e + 32 < getD ws (base t n) 0 → Looks k ws tree (Pair (getD ws (base t n + 1 + e) 0) (getD ws (base t n + 8 + e) 0))
-        looks-pair h = record {
-          at = made;
-          goes = made-goes;
-          sees = record {
-            sees = λ p s o q.
-                let u = seat ws t made made-ready made-some p s o q in
-                look-pair ws t made p s u n e (base t n) (sym made-node ∙ leaf-node ws t made p s u) (g ∙ sym made-place ∙ leaf-place ws t made p s u) refl h;
-          };
-        }
+      pub foot-rises : KeysRise (keysOf 32 (block ws t n))
+      foot-rises = rw (← made-node) (made-leafy .rise)
 
-        pub looks-none : getD ws (base t n) 0 ≤ e + 32 → Looks k ws tree Nothing
-        looks-none h = record {
-          at = made;
-          goes = made-goes;
-          sees = record {
-            sees = λ p s o q.
-                let u = seat ws t made made-ready made-some p s o q in
-                look-none ws t made p s u n e (base t n) (sym made-node ∙ leaf-node ws t made p s u) (g ∙ sym made-place ∙ leaf-place ws t made p s u) refl h;
-          };
-        }
+      pub foot-ends : (e : ℕ) → e ≡ landOf (Key k) (block ws t n) → Ends k ws tree n e
+      foot-ends e g = record { path = way-down; goes = made-goes; some = made-some; node = made-node; place = made-place ∙ sym g }
+
+  -- what the end of a path gives
+  module _ (n e : ℕ) (d : Ends k ws tree n e) where
+    abbrev ended : Cursor
+    ended = cursorAt tree (d .path)
+
+    ended-standing : Standing ws ended
+    ended-standing = gone-standing (seek k) (fits-seek k) ws t tree ended y (d .goes)
+
+    ended-leafy : Leafy ws t ended
+    ended-leafy = leafy ws t ended y ended-standing (d .some)
+
+    pub ends-in : LeafIn ws t n
+    ends-in = rw (← d .node) (leaf-in ws t ended ended-leafy)
+
+    pub ends-place : e + 32 ≤ getD ws (base t n) 0
+    ends-place = rw (← d .node, ← d .place) (ended-leafy .place)
+
+    pub ends-looks : Looks k ws tree (lookIn ws t n e)
+    ends-looks = record {
+      at = ended;
+      goes = d .goes;
+      sees = record { sees = λ p s o q. looked ws t ended p s (seat ws t ended y (d .some) p s o q) n e (d .node) (d .place) };
+    }

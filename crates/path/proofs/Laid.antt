@@ -1,20 +1,19 @@
 -- PROOFS. A tree in the words: where each node lies, its words, its children
 use mathlib.Core.Path.{_≡_, ap, _∙_}
 use mathlib.Core.List.{List, [], _∷_, _++_}
-use mathlib.Core.Bool.{_&&_}
 use Prim.Native.Nat.{ℕ, zero, suc, _+_, _-_, _*_, _≤_, _<_}
 use native.Mathlib.Omega.{arith}
-use lib.ListN.{length, take, drop, getD, length-map}
-use lib.Dec.{leb}
+use lib.ListN.{length, take, drop, getD}
 use Rattle.forest.specs.Sizes.{leafLeast, leafCap}
-use Rattle.forest.specs.Lists.{sum, parent, offset, once, count}
+use Rattle.forest.specs.Lists.{sum, parent, offset, count}
 use Rattle.forest.specs.Pairs.{Item, Rising}
-use Rattle.forest.specs.Rows.{Row, Tree, size, sizes, nums, joined, line, itemsAt, Fill, Tower, Good}
+use Rattle.forest.specs.Rows.{Row, Tree, sizes, nums, joined, line, itemsAt, Fill, Tower, Good}
 use Rattle.forest.specs.Trees.{numbers}
 use Rattle.forest.specs.Pools.{Pool, WellFormed, used, treeOf, encode, leafWords, innerWords, nodeWords, rootAbove}
-use Rattle.forest.proofs.ListLaws.{is, isnt, test, tests, parent-lt, offset-lt, parent-start}
-use Rattle.forest.proofs.RowLaws.{length-items, fill-at, sum-sizes, length-line}
-use Rattle.forest.proofs.TreeLaws.{NoneEmpty, none-empty}
+use Rattle.forest.proofs.ListLaws.{offset-lt, parent-start}
+use Rattle.forest.proofs.RowLaws.{length-items, fill-at, sum-sizes, length-line, parent-there}
+use Rattle.forest.proofs.TreeLaws.{NoneEmpty, none-empty, none-at}
+use Rattle.forest.proofs.UniqueLaws
 use Rattle.forest.proofs.PoolLaws.{good-at}
 use Rattle.forest.proofs.CountLaws.{encode-length}
 use Rattle.forest.proofs.WordLaws.{count-append, count-at, count-row, count-tree, rowAt, leaf-words, inner-words, node-window}
@@ -41,16 +40,10 @@ pub record Laid (ws : List ℕ) (t : ℕ) (L : Row) (Rs : List Row) : Type 0 whe
   pub few : length Rs ≤ 5
   pub trees : t ≤ 32
 
-once-yes : (n c : ℕ) → 1 ≤ once (leb 1 n && leb n c) → (1 ≤ n) × (n ≤ c)
-once-yes n c h = elim (test (leb 1 n)) [
-  | is a ↦ elim (test (leb n c)) [ is b ↦ (omega tests, omega tests) | isnt b ↦ absurd (let z = simp (a, b) at h in omega arith) ]
-  | isnt a ↦ absurd (let z = simp a at h in omega arith)
-]
-
 module _ (p : Pool) (w : WellFormed leafLeast p) where
   -- a number in use
   used-range : (n : ℕ) → 1 ≤ count n (used (p .trees)) → (1 ≤ n) × (n ≤ p .count)
-  used-range n h = once-yes n (p .count) (omega (arith, w .each-once n))
+  used-range n h = UniqueLaws.inside leafLeast p w n h
 
   lies : (n : ℕ) → 1 ≤ count n (used (p .trees)) → (1 ≤ n) × (n ≤ 512) × (base (length (p .trees)) n + 16 ≤ length (encode p))
   lies n h =
@@ -106,11 +99,6 @@ module _ (p : Pool) (w : WellFormed leafLeast p) where
 
 -- Sizes
 
-none-at : (R : Row) (j : ℕ) → NoneEmpty R → j < length R → 1 ≤ getD (sizes R) j 0
-none-at [] j s h = absurd (omega arith)
-none-at (n ∷ R) zero s h = s .0
-none-at (n ∷ R) (suc j) s h = none-at R j (s .1) (omega arith)
-
 -- the count of a node's items, with minimum lo and capacity hi
 pub size-bounds : (lo hi : ℕ) (R : Row) (j : ℕ) → 1 ≤ lo → Fill lo hi (sizes R) → j < length R → (1 ≤ length (itemsAt R j)) × (length (itemsAt R j) ≤ hi)
 size-bounds lo hi R j a f h =
@@ -137,7 +125,7 @@ module _ (R S : Row) (s : Stood R S) where
       ap (λ (xs : List ℕ). getD xs (sum (take q (sizes S)) + o) 0) (links-line R)
 
   pub parent-in : (i : ℕ) → i < length R → parent (sizes S) i < length S
-  parent-in i h = rw (length-map S size) at (parent-lt (sizes S) i (omega (arith, children)))
+  parent-in i h = parent-there S i (omega (arith, children))
 
   pub offset-in : (i : ℕ) → i < length R → offset (sizes S) i < getD (sizes S) (parent (sizes S) i) 0
   offset-in i h = offset-lt (sizes S) i (omega (arith, children))

@@ -1,29 +1,20 @@
 -- PROOFS. Where going down comes to, a cursor can stand
 use mathlib.Core.Path.{_≡_, sym, ap, _∙_}
-use mathlib.Core.List.{List, [], _∷_}
+use mathlib.Core.List.{List}
 use Prim.Native.Nat.{ℕ, _-_}
 use native.Mathlib.Omega.{arith}
-use lib.ListN.{length}
-use borrow.Author.Tests.{lt-ltb}
 use Rattle.forest.specs.Sizes.{leafLeast}
 use Rattle.forest.specs.Rows.{Row, Tree, Good}
-use Rattle.forest.specs.Trees.{leafOf, leafItems}
 use Rattle.forest.specs.Pools.{Pool, treeOf}
 use Rattle.forest.specs.Cursors.{Spot, leaves, Fits, seek, pathOf, cursorAt, Stands}
 use Rattle.forest.specs.declared.Cursor.{Cursor}
-use Rattle.forest.proofs.PairLaws.{place-le}
-use Rattle.forest.proofs.RowLaws.{length-items}
-use Rattle.forest.proofs.TowerLaws.{tower-some}
-use Rattle.forest.proofs.TreeLaws.{lands}
 use Rattle.forest.proofs.PoolLaws.{good-at}
+use Rattle.forest.proofs.CursorCalls
 use Rattle.path.specs.Cores.{Ready, Of, At, Standing, Goes}
 use Rattle.path.proofs.Roots.{the-pool}
 
 pub fits-seek : (k : ℕ) (t : Tree) → Good leafLeast 7 t → Fits (leaves t) (seek k (leaves t))
-fits-seek k [] g = tt
-fits-seek k (L ∷ Rs) g =
-    let s = lands leafLeast 7 k L Rs (omega arith) g in
-    simp (lt-ltb 0 (length L) (tower-some L Rs (g .2))) (s .at, rw (← length-items L (leafOf k L)) (place-le k (leafItems k L)))
+fits-seek k t g = CursorCalls.fits-seek leafLeast k t (omega arith) g
 
 -- a cursor made at a spot
 module _ (p : Pool) (tree : ℕ) (d : Cursor) (s : Spot) (f : Fits (leaves (treeOf p tree)) s) (e : d ≡ cursorAt tree (pathOf (treeOf p tree) s)) where

@@ -4,8 +4,8 @@ use mathlib.Core.List.{List, [], _∷_, _++_, map}
 use mathlib.Core.Option.{none, some}
 use Prim.Native.Nat.{ℕ, zero, suc, _+_, _-_, _≤_, _<_}
 use native.Mathlib.Omega.{arith}
-use lib.ListN.{length, take, drop, getD, getElem?, length-map, List·getD-append}
-use lib.Seq.{take-nil, getD-append-add, getD-take, getD-drop, take-append-le, take-take, drop-drop}
+use lib.ListN.{length, take, drop, getD, getElem?, length-map}
+use lib.Seq.{take-nil, getD-take, getD-drop, take-append-le, take-take, drop-drop}
 use borrow.Author.Tests.{lt-ltb, le-ltb}
 use Rattle.forest.specs.Lists.{sum, parent, offset, upto, pad}
 use Rattle.forest.specs.Slices.{keyPlace}
@@ -13,6 +13,7 @@ use Rattle.forest.specs.Pairs.{Item, place}
 use Rattle.forest.specs.Rows.{Row, size, sizes, nums, joined, line, itemsAt}
 use Rattle.forest.specs.Pools.{leafWords, innerWords}
 use Rattle.forest.proofs.CountLaws.{length-pad}
+pub use Rattle.forest.proofs.WordLaws.{key-word, link-word}
 use Rattle.forest.proofs.Descent.{keys, stored}
 use Rattle.path.specs.Ways.{blockAt, keysOf, turnOf, landOf}
 use Rattle.path.specs.declared.Way.the-variants.{Key, First, Last}
@@ -40,13 +41,6 @@ block-keys ws b s h = ap (take s) (drop-take 1 15 (drop b ws)) ∙ take-take s 1
         none (suc n) = refl
     drop-take (suc m) n (x ∷ l) = let z : suc m + n ≡ suc (m + n) = omega arith in rw z (drop-take m n l)
 
-pub getD-pad : (n : ℕ) (xs : List ℕ) (i : ℕ) → i < n → getD (pad n xs) i 0 ≡ getD xs i 0
-getD-pad zero xs i h = absurd (omega arith)
-getD-pad (suc n) [] zero h = refl
-getD-pad (suc n) [] (suc i) h = getD-pad n [] i (omega arith)
-getD-pad (suc n) (x ∷ xs) zero h = refl
-getD-pad (suc n) (x ∷ xs) (suc i) h = getD-pad n xs i (omega arith)
-
 take-pad : (n : ℕ) (xs : List ℕ) → length xs ≤ n → take (length xs) (pad n xs) ≡ xs
 take-pad n [] h = refl
 take-pad zero (x ∷ xs) h = absurd (omega arith)
@@ -54,16 +48,6 @@ take-pad (suc n) (x ∷ xs) h = ap (x ∷_) (take-pad n xs (omega arith))
 
 -- words of a node with keys ks and links vs
 module _ (w : ℕ) (ks vs : List ℕ) where
-  pub key-word : (i : ℕ) → i < 7 → getD (w ∷ (pad 7 ks ++ pad 8 vs)) (1 + i) 0 ≡ getD ks i 0
-  key-word i h =
-      let z : 1 + i ≡ suc i = omega arith in
-      rw z (List·getD-append (pad 7 ks) (pad 8 vs) 0 i (rw (length-pad 7 ks) h) ∙ getD-pad 7 ks i h)
-
-  pub link-word : (i : ℕ) → i < 8 → getD (w ∷ (pad 7 ks ++ pad 8 vs)) (8 + i) 0 ≡ getD vs i 0
-  link-word i h =
-      let z : 8 + i ≡ suc (length (pad 7 ks) + i) = omega (arith, length-pad 7 ks) in
-      rw z (getD-append-add (pad 7 ks) (pad 8 vs) i 0 ∙ getD-pad 8 vs i h)
-
   pub key-words : length ks ≤ 7 → take (length ks) (drop 1 (w ∷ (pad 7 ks ++ pad 8 vs))) ≡ ks
   key-words h = take-append-le (length ks) (pad 7 ks) (pad 8 vs) (rw (length-pad 7 ks) h) ∙ take-pad 7 ks h
 
@@ -112,7 +96,8 @@ land-first w = refl
 pub pair-words : (xs : List Item) (e : ℕ) → length xs ≤ 7 → e < length xs →
     getElem? xs e ≡ some (getD (leafWords xs) (1 + e) 0, getD (leafWords xs) (8 + e) 0)
 pair-words xs e h k =
-    rw (key-word (32 + length xs) (keys xs) (links xs) e (omega arith), link-word (32 + length xs) (keys xs) (links xs) e (omega arith)) (nth xs e k)
+    let z : 1 + e ≡ suc e = omega arith in
+    rw (z, key-word (32 + length xs) (keys xs) (links xs) e (omega arith), link-word (32 + length xs) (keys xs) (links xs) e (omega arith)) (nth xs e k)
   where
     nth : (ys : List Item) (i : ℕ) → i < length ys → getElem? ys i ≡ some (getD (keys ys) i 0, getD (links ys) i 0)
     nth [] i q = absurd (omega arith)

@@ -5,6 +5,7 @@ use mathlib.Core.Option.{none, some}
 use Prim.Native.Nat.{ℕ, _+_, _-_, _≤_, _<_}
 use native.Mathlib.Omega.{arith}
 use lib.ListN.{length, take, getD}
+use lib.Dec.{ltb}
 use lib.Seq.{getD-at, take-at}
 use Rattle.forest.specs.Sizes.{leafLeast, leafCap}
 use Rattle.forest.specs.Lists.{parent, offset}
@@ -12,12 +13,11 @@ use Rattle.forest.specs.Rows.{Row, Tree, size, sizes, nums, itemsAt, Tower}
 use Rattle.forest.specs.Pools.{Pool, treeOf, leafWords, innerWords}
 use Rattle.forest.specs.Cursors.{Spot, off, on, leaves, sizeAt, Fits, pairAt, Path, pathUp, cursorAt}
 use Rattle.forest.specs.declared.Cursor.{Cursor}
-use Rattle.forest.proofs.ListLaws.{tri, less, same, more}
+use Rattle.forest.proofs.ListLaws.{is, isnt, test, tests, tri, less, same, more}
 use Rattle.forest.proofs.RowLaws.{length-items}
 use Rattle.forest.specs.Slices.{KeysRise}
 use Rattle.path.specs.Ways.{base, block, blockAt, keysOf, Deep}
-use Rattle.path.specs.Cores.{Ready, Of, At, Standing, lookOf}
-use Rattle.path.specs.declared.Look.the-variants.{Pair, Nothing}
+use Rattle.path.specs.Cores.{Ready, Of, At, Standing, LeafIn, lookIn, lookOf}
 use Rattle.path.proofs.NodeWords.{pair-words}
 use Rattle.path.proofs.Laid.{Laid, RowIn, RowsIn, Rises, leaves-rise, rises-up, AllDeep, leaf-deep, inner-deep, size-bounds, Stood, stood, parent-in, offset-in, leaf-first, inner-first}
 use Rattle.path.proofs.CursorWords.{node-at, place-at}
@@ -166,21 +166,23 @@ module _ (ws : List ℕ) (t : ℕ) (c : Cursor) (p : Pool) (s : Spot) (u : Seat 
   row-is = ap leaves (u .tree-is)
 
   -- what a look sees
-  pub look-pair : (n e b : ℕ) → n ≡ getD (nums (u .L)) (u .j) 0 → e ≡ u .e → b ≡ base t n → e + 32 < getD ws b 0 →
-      Pair (getD ws (b + 1 + e) 0) (getD ws (b + 8 + e) 0) ≡ lookOf (pairAt (leaves (treeOf p (c .tree))) s)
-  look-pair n e b x y z k =
-      let w : getD ws b 0 ≡ 32 + length (itemsAt (u .L) (u .j)) = rw (z, x) leaf-entries in
-      let v : blockAt ws b ≡ leafWords (itemsAt (u .L) (u .j)) = rw (z, x) leaf-block in
-      let g = pair-words (itemsAt (u .L) (u .j)) e (leaf-bound .1) (omega arith) in
-      let a : getD (leafWords (itemsAt (u .L) (u .j))) (1 + e) 0 ≡ getD ws (b + 1 + e) 0 = rw (← v) (key-word-at ws b e (omega (arith, leaf-bound .1))) in
-      let d : getD (leafWords (itemsAt (u .L) (u .j))) (8 + e) 0 ≡ getD ws (b + 8 + e) 0 = rw (← v) (link-word-at ws b e (omega (arith, leaf-bound .1))) in
-      rw (row-is, u .spot-is, ← y, g, a, d)
-
-  pub look-none : (n e b : ℕ) → n ≡ getD (nums (u .L)) (u .j) 0 → e ≡ u .e → b ≡ base t n → getD ws b 0 ≤ e + 32 →
-      Nothing ≡ lookOf (pairAt (leaves (treeOf p (c .tree))) s)
-  look-none n e b x y z k =
-      let w : getD ws b 0 ≡ 32 + length (itemsAt (u .L) (u .j)) = rw (z, x) leaf-entries in
-      rw (row-is, u .spot-is, ← y, nth-none (itemsAt (u .L) (u .j)) e (omega arith))
+  pub looked : (n e : ℕ) → getD (c .nodes) (c .size - 1) 0 ≡ n → getD (c .places) (c .size - 1) 0 ≡ e → lookIn ws t n e ≡ lookOf (pairAt (leaves (treeOf p (c .tree))) s)
+  unfolding lookIn
+  looked n e x y =
+      let m : n ≡ getD (nums (u .L)) (u .j) 0 = sym x ∙ leaf-node in
+      let q : e ≡ u .e = sym y ∙ leaf-place in
+      let b = base t n in
+      let w : getD ws (base t n) 0 ≡ 32 + length (itemsAt (u .L) (u .j)) = rw m leaf-entries in
+      let v : blockAt ws (base t n) ≡ leafWords (itemsAt (u .L) (u .j)) = rw m leaf-block in
+      elim (test (ltb (e + 32) (getD ws (base t n) 0))) [
+        | is h ↦
+            let k : e < length (itemsAt (u .L) (u .j)) = omega tests in
+            let g = pair-words (itemsAt (u .L) (u .j)) e (leaf-bound .1) (omega arith) in
+            let a : getD (leafWords (itemsAt (u .L) (u .j))) (1 + e) 0 ≡ getD ws (base t n + 1 + e) 0 = rw (← v) (key-word-at ws (base t n) e (omega (arith, leaf-bound .1))) in
+            let d : getD (leafWords (itemsAt (u .L) (u .j))) (8 + e) 0 ≡ getD ws (base t n + 8 + e) 0 = rw (← v) (link-word-at ws (base t n) e (omega (arith, leaf-bound .1))) in
+            rw (h, row-is, u .spot-is, ← q, g, a, d)
+        | isnt h ↦ rw (h, row-is, u .spot-is, ← q, nth-none (itemsAt (u .L) (u .j)) e (omega tests))
+      ]
 
 -- The leaf level, as code that reads it needs it
 pub record Leafy (ws : List ℕ) (t : ℕ) (c : Cursor) : Type 0 where
@@ -193,6 +195,9 @@ pub record Leafy (ws : List ℕ) (t : ℕ) (c : Cursor) : Type 0 where
   pub place : getD (c .places) (c .size - 1) 0 + 32 ≤ getD ws (base t (getD (c .nodes) (c .size - 1) 0)) 0
   pub trees : t ≤ 32
   pub rise : KeysRise (keysOf 32 (block ws t (getD (c .nodes) (c .size - 1) 0)))
+
+pub leaf-in : (ws : List ℕ) (t : ℕ) (c : Cursor) → Leafy ws t c → LeafIn ws t (getD (c .nodes) (c .size - 1) 0)
+leaf-in ws t c l = record { some = l .some; few = l .few; long = l .long; least = l .least; most = l .most; trees = l .trees }
 
 module _ (ws : List ℕ) (t : ℕ) (c : Cursor) (y : Ready ws t (c .tree)) (d : Standing ws c) (h : 1 ≤ c .size) where
   abbrev pub own-pool : Pool

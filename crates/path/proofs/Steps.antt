@@ -3,14 +3,17 @@ use mathlib.Core.Path.{_≡_, refl, sym, ap, _∙_}
 use mathlib.Core.List.{List}
 use Prim.Native.Nat.{ℕ, zero, suc, _+_, _-_, _≤_, _<_}
 use native.Mathlib.Omega.{arith}
-use lib.ListN.{length, take, drop, getD, length-take}
-use borrow.Author.Tests.{le-leb, lt-leb}
+use lib.ListN.{length, take, drop, getD, length-take, length-drop}
+use lib.Seq.{take-take, length-take-le}
+use borrow.Author.Tests.{lt-ltb, le-ltb, le-leb, lt-leb}
 use Rattle.forest.specs.Slices.{KeysRise, searched}
 use Rattle.forest.specs.declared.Cursor.{Cursor}
 use Rattle.forest.specs.declared.Found.{Found}
 use Rattle.forest.specs.declared.Found.the-variants.{Here, Absent}
 use Rattle.path.specs.Ways.{base, blockAt, block, keysOf, turnOf, landOf, descend, Lies, Deep, Extends}
 use Rattle.path.specs.Levels.{pushed}
+use Rattle.path.specs.Cores.{lookIn}
+use Rattle.path.specs.declared.Look.the-variants.{Pair, Nothing}
 use Rattle.path.specs.declared.Way.{Way}
 use Rattle.path.specs.declared.Way.the-variants.{Key, First, Last}
 use Rattle.path.proofs.NodeWords.{at-block, block-keys}
@@ -28,22 +31,30 @@ link-word-at ws b i h = let z : b + (8 + i) ≡ b + 8 + i = omega arith in at-bl
 pub key-word-at : (ws : List ℕ) (b i : ℕ) → i < 7 → getD (blockAt ws b) (1 + i) 0 ≡ getD ws (b + 1 + i) 0
 key-word-at ws b i h = let z : b + (1 + i) ≡ b + 1 + i = omega arith in at-block ws b (1 + i) (omega arith) ∙ ap (λ (x : ℕ). getD ws x 0) z
 
+-- each return of a look into a leaf
+pub looks-pair : (ws : List ℕ) (t n e : ℕ) → e + 32 < getD ws (base t n) 0 → Pair (getD ws (base t n + 1 + e) 0) (getD ws (base t n + 8 + e) 0) ≡ lookIn ws t n e
+unfolding lookIn
+looks-pair ws t n e h = rw (lt-ltb (e + 32) (getD ws (base t n) 0) h)
+
+pub looks-none : (ws : List ℕ) (t n e : ℕ) → getD ws (base t n) 0 ≤ e + 32 → Nothing ≡ lookIn ws t n e
+unfolding lookIn
+looks-none ws t n e h = rw (le-ltb (e + 32) (getD ws (base t n) 0) h)
+
 -- turn and land, as the code has them
 module _ (ws : List ℕ) (b : ℕ) where
   -- the keys that the code lends to a search
   abbrev lent : ℕ → List ℕ
-  lent tag = take (b + 1 + (getD ws b 0 - tag) - (b + 1)) (drop (b + 1) ws)
+  lent tag = take (getD ws b 0 - tag) (take (b + 8 - (b + 1)) (drop (b + 1) ws))
 
   module _ (tag : ℕ) (h : getD ws b 0 ≤ tag + 7) where
     lent-is : lent tag ≡ keysOf tag (blockAt ws b)
     lent-is =
-        let z : b + 1 + (getD ws b 0 - tag) - (b + 1) ≡ getD ws b 0 - tag = omega arith in
-        rw (first-word, z) (sym (block-keys ws b (getD ws b 0 - tag) (omega arith)))
+        take-take (getD ws b 0 - tag) (b + 8 - (b + 1)) (drop (b + 1) ws) (omega arith) ∙ rw first-word (sym (block-keys ws b (getD ws b 0 - tag) (omega arith)))
 
     -- they rise, and a search in them finds what one in the keys of the node does
     module _ (r : KeysRise (keysOf tag (blockAt ws b))) where
-      pub lent-rise : KeysRise (lent tag)
-      lent-rise = rw lent-is r
+      pub lent-asks : b + 16 ≤ length ws → ((length (take (b + 8 - (b + 1)) (drop (b + 1) ws)) ≡ 7) × (getD ws b 0 - tag ≤ 7)) × KeysRise (lent tag)
+      lent-asks l = ((length-take-le (b + 8 - (b + 1)) (drop (b + 1) ws) (simp length-drop (omega arith)) ∙ omega arith, omega arith), rw lent-is r)
 
       pub found-here : (k i : ℕ) (x : Found) → x ≡ searched k (lent tag) → x ≡ Here i → Stops k (keysOf tag (blockAt ws b)) i (i + 1)
       found-here k i x e q = stops-here k (keysOf tag (blockAt ws b)) i r (sym q ∙ e ∙ ap (searched k) lent-is)

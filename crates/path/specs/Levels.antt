@@ -1,13 +1,15 @@
 -- DEFINITIONS. The levels of a cursor in the words: one more, fewer, where a path branches off
 use mathlib.Core.List.{List}
-use mathlib.Core.Bool.{Bool, cond}
+use mathlib.Core.Bool.{Bool, true, false, cond}
 use Prim.Native.Nat.{ℕ, zero, suc, _+_, _≤_, _<_}
 use lib.ListN.{length, take, getD, set}
 use lib.Dec.{ltb, eqb}
-use Rattle.forest.specs.Sizes.{mostLevels}
+use Rattle.forest.specs.Sizes.{mostTrees, mostNodes, mostLevels}
 use Rattle.forest.specs.Lists.{pad}
 use Rattle.forest.specs.declared.Cursor.{Cursor}
 use Rattle.path.specs.Ways.{base, block}
+use Rattle.path.specs.declared.Branch.{Branch}
+use Rattle.path.specs.declared.Branch.the-variants.{At, Nothing}
 
 -- the cursor with one level more: node n, place p
 unfoldable pub pushed : Cursor → ℕ → ℕ → Cursor
@@ -31,19 +33,24 @@ cutAt c l = record {
 abbrev pub moreRight : List ℕ → ℕ → List ℕ → List ℕ → ℕ → Bool
 moreRight ws t ns ps l = ltb (getD ps l 0 + 16) (getD (block ws t (getD ns l 0)) 0 0)
 
--- the deepest level above l with more to the right, or 16
-unfoldable pub rightBranch : List ℕ → ℕ → List ℕ → List ℕ → ℕ → ℕ
-rightBranch ws t ns ps zero = 16
-rightBranch ws t ns ps (suc l) = cond (moreRight ws t ns ps l) l (rightBranch ws t ns ps l)
+-- the deepest level above l with more to the right
+unfoldable pub rightBranch : List ℕ → ℕ → List ℕ → List ℕ → ℕ → Branch
+rightBranch ws t ns ps zero = Nothing
+rightBranch ws t ns ps (suc l) = cond (moreRight ws t ns ps l) (At l) (rightBranch ws t ns ps l)
 
--- the deepest level above l with something to the left, or 16
-unfoldable pub leftBranch : List ℕ → ℕ → ℕ
-leftBranch ps zero = 16
-leftBranch ps (suc l) = cond (eqb (getD ps l 0) 0) (leftBranch ps l) l
+-- the deepest level above l with something to the left
+unfoldable pub leftBranch : List ℕ → ℕ → Branch
+leftBranch ps zero = Nothing
+leftBranch ps (suc l) = cond (eqb (getD ps l 0) 0) (leftBranch ps l) (At l)
+
+-- is there no such level
+abbrev pub noBranch : Branch → Bool
+noBranch Nothing = true
+noBranch (At l) = false
 
 -- the nodes of a cursor down to a level lie in the words, and its places are small
 pub record Safe (ws : List ℕ) (t : ℕ) (c : Cursor) (level : ℕ) : Type 0 where
   pub deep : level ≤ 16
-  pub trees : t ≤ 32
-  pub node : (l : ℕ) → l < level → (1 ≤ getD (c .nodes) l 0) × (getD (c .nodes) l 0 ≤ 512) × (base t (getD (c .nodes) l 0) + 16 ≤ length ws)
+  pub trees : t ≤ mostTrees
+  pub node : (l : ℕ) → l < level → (1 ≤ getD (c .nodes) l 0) × (getD (c .nodes) l 0 ≤ mostNodes) × (base t (getD (c .nodes) l 0) + 16 ≤ length ws)
   pub place : (l : ℕ) → l < level → getD (c .places) l 0 < 8

@@ -2,19 +2,17 @@
 use mathlib.Core.Path.{_≡_}
 use mathlib.Core.List.{List, [], _∷_, _++_}
 use mathlib.Core.Bool.{cond}
-use Prim.Native.Nat.{ℕ, zero, suc, _+_, _-_, _*_, _≤_, _<_}
+use Prim.Native.Nat.{ℕ, zero, suc, _+_, _-_, _≤_, _<_}
 use lib.ListN.{length, take, drop, getD}
 use lib.Dec.{leb}
+pub use Rattle.forest.specs.Sizes.{base}
+use Rattle.forest.specs.Sizes.{mostNodes}
 use Rattle.forest.specs.Lists.{upto}
 use Rattle.forest.specs.Slices.{KeysRise, keyPlace}
 use Rattle.forest.specs.Cursors.{Path, cursorAt}
 use Rattle.forest.specs.declared.Cursor.{Cursor}
 use Rattle.path.specs.declared.Way.{Way}
 use Rattle.path.specs.declared.Way.the-variants.{Key, First, Last}
-
--- where the words of node n start; t trees
-abbrev pub base : ℕ → ℕ → ℕ
-base t n = t + 16 * n - 14
 
 -- the sixteen words from place b on
 unfoldable pub blockAt : List ℕ → ℕ → List ℕ
@@ -59,7 +57,7 @@ footOf way (suc f) ws t n =
 -- node n lies in the words and is a leaf or an inner node, and its keys rise
 pub record Lies (ws : List ℕ) (t n : ℕ) : Type 0 where
   pub some : 1 ≤ n
-  pub few : n ≤ 512
+  pub few : n ≤ mostNodes
   pub long : base t n + 16 ≤ length ws
   pub leaf : 32 ≤ getD (block ws t n) 0 0 → (33 ≤ getD (block ws t n) 0 0) × (getD (block ws t n) 0 0 ≤ 39)
   pub inner : getD (block ws t n) 0 0 < 32 → (16 ≤ getD (block ws t n) 0 0) × (getD (block ws t n) 0 0 ≤ 23)

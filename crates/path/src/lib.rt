@@ -3,13 +3,13 @@ ghost use mathlib.Core.Path.{_≡_};
 ghost use Prim.Native.Nat.{_+_, _-_, _*_, _≤_, _<_};
 ghost use mathlib.Core.List.{[]};
 ghost use lib.ListN.{length, take, getD};
-ghost use Rattle.forest.specs.Sizes.{mostLevels};
+ghost use Rattle.forest.specs.Sizes.{mostTrees, mostLevels};
 ghost use Rattle.forest.specs.Lists.{pad};
 ghost use Rattle.forest.specs.Slices.{KeysRise};
 ghost use Rattle.forest.specs.Cursors.{cursorAt, first, seek};
 ghost use Rattle.path.specs.Ways.{blockAt, keysOf, turnOf, landOf, descend, footOf, Deep, Extends};
 ghost use Rattle.path.specs.Levels.{pushed, cutAt, rightBranch, leftBranch, Safe};
-ghost use Rattle.path.specs.Cores.{Ready, Standing, Goes, Sees, Looks};
+ghost use Rattle.path.specs.Cores.{Ready, Standing, Goes, Sees, LeafIn, lookIn, Ends, Looks};
 use forest::Cursor;
 use forest::Found;
 
@@ -24,6 +24,18 @@ pub enum Way {
 pub enum Look {
     Pair(u32, u32),
     Nothing,
+}
+
+// The level where a path can branch off.
+pub enum Branch {
+    At(usize),
+    Nothing,
+}
+
+// Where a path ends: the leaf, and the place in it.
+pub struct Foot {
+    pub node: u32,
+    pub place: usize,
 }
 
 // Cursors
@@ -93,7 +105,7 @@ fn turn(ws: &[u32], b: usize, way: Way) -> usize
 {
     let s = (ws[b] - 16) as usize;
     match way {
-        Way::Key(key) => match forest::search(key, &ws[b + 1..b + 1 + s]) {
+        Way::Key(key) => match forest::search(key, &ws[b + 1..b + 8], s) {
             Found::Here(i) => i + 1,
             Found::Absent(i) => i,
         },
@@ -111,7 +123,7 @@ fn land(ws: &[u32], b: usize, way: Way) -> usize
 {
     let s = (ws[b] - 32) as usize;
     match way {
-        Way::Key(key) => match forest::search(key, &ws[b + 1..b + 1 + s]) {
+        Way::Key(key) => match forest::search(key, &ws[b + 1..b + 8], s) {
             Found::Here(i) => i,
             Found::Absent(i) => i,
         },
@@ -123,7 +135,7 @@ fn land(ws: &[u32], b: usize, way: Way) -> usize
 // From a node down to a leaf, `left` levels at most.
 pub fn down(ws: &[u32], t: usize, way: Way, c: Cursor, node: u32, left: usize) -> Cursor
     requires { ⌜ Deep left (now ws) t node ⌝ }
-    requires { ⌜ (t ≤ 32) × (c .size + left ≤ 16) ⌝ }
+    requires { ⌜ (t ≤ mostTrees) × (c .size + left ≤ mostLevels) ⌝ }
     ensures { λ r. ⌜ Extends c r (descend way left (now (ws .entry)) t node) ⌝ }
 {
     let mut out = c;
@@ -173,8 +185,8 @@ pub fn first(ws: &[u32], t: usize, tree: u32) -> Cursor
 
 // Where a cursor stands
 
-// The deepest level above `level` with more to the right, or 16.
-pub fn right_sibling_branch_level(ws: &[u32], t: usize, c: Cursor, level: usize) -> usize
+// The deepest level above `level` with more to the right.
+pub fn right_sibling_branch_level(ws: &[u32], t: usize, c: Cursor, level: usize) -> Branch
     requires { ⌜ Safe (now ws) t c level ⌝ }
     ensures { λ r. ⌜ r ≡ rightBranch (now (ws .entry)) t (c .nodes) (c .places) level ⌝ }
 {
@@ -183,14 +195,14 @@ pub fn right_sibling_branch_level(ws: &[u32], t: usize, c: Cursor, level: usize)
         l -= 1;
         let b = t + 16 * (c.nodes[l] as usize) - 14;
         if c.places[l] + 16 < ws[b] {
-            return l;
+            return Branch::At(l);
         }
     }
-    16
+    Branch::Nothing
 }
 
-// The deepest level above `level` with something to the left, or 16.
-pub fn left_sibling_branch_level(c: Cursor, level: usize) -> usize
+// The deepest level above `level` with something to the left.
+pub fn left_sibling_branch_level(c: Cursor, level: usize) -> Branch
     requires { ⌜ level ≤ 16 ⌝ }
     ensures { λ r. ⌜ r ≡ leftBranch (c .places) level ⌝ }
 {
@@ -198,10 +210,23 @@ pub fn left_sibling_branch_level(c: Cursor, level: usize) -> usize
     while l > 0 {
         l -= 1;
         if c.places[l] != 0 {
-            return l;
+            return Branch::At(l);
         }
     }
-    16
+    Branch::Nothing
+}
+
+// What stands at place e of leaf n.
+pub fn look_in(ws: &[u32], t: usize, n: u32, e: usize) -> Look
+    requires { ⌜ LeafIn (now ws) t n ⌝ }
+    requires { ⌜ e ≤ 7 ⌝ }
+    ensures { λ r. ⌜ r ≡ lookIn (now (ws .entry)) t n e ⌝ }
+{
+    let b = t + 16 * (n as usize) - 14;
+    if e + 32 < ws[b] as usize {
+        return Look::Pair(ws[b + 1 + e], ws[b + 8 + e]);
+    }
+    Look::Nothing
 }
 
 // What stands where a cursor stands.
@@ -216,18 +241,13 @@ pub fn look_at(ws: &[u32], t: usize, c: Cursor) -> Look
     }
     let node = c.nodes[size - 1];
     let entry = c.places[size - 1] as usize;
-    let b = t + 16 * (node as usize) - 14;
-    let w = ws[b];
-    if entry + 32 < w as usize {
-        return Look::Pair(ws[b + 1 + entry], ws[b + 8 + entry]);
-    }
-    Look::Nothing
+    look_in(ws, t, node, entry)
 }
 
 // The leaf that going down from a node comes to, `left` levels at most; no cursor is made.
 fn leaf_below(ws: &[u32], t: usize, way: Way, node: u32, left: usize) -> u32
     requires { ⌜ Deep left (now ws) t node ⌝ }
-    requires { ⌜ t ≤ 32 ⌝ }
+    requires { ⌜ t ≤ mostTrees ⌝ }
     ensures { λ r. ⌜ r ≡ footOf way left (now (ws .entry)) t node ⌝ }
 {
     let mut n = node;
@@ -245,6 +265,21 @@ fn leaf_below(ws: &[u32], t: usize, way: Way, node: u32, left: usize) -> u32
     n
 }
 
+// The leaf where a key of a tree that is not empty is or would be put, and its place there; no cursor is made.
+pub fn find_leaf(ws: &[u32], t: usize, tree: u32, key: u32) -> Foot
+    requires { ⌜ Ready (now ws) t tree ⌝ }
+    requires { ⌜ 1 ≤ getD (now ws) (1 + tree) 0 ⌝ }
+    ensures { λ r. ⌜ Ends key (now (ws .entry)) tree (r .node) (r .place) ⌝ }
+{
+    let root = ws[1 + tree as usize];
+    let n = leaf_below(ws, t, Way::Key(key), root, 16);
+    let b = t + 16 * (n as usize) - 14;
+    Foot {
+        node: n,
+        place: land(ws, b, Way::Key(key)),
+    }
+}
+
 // What stands at the place of a key, as a look at the cursor that `find` makes sees it.
 pub fn look_for(ws: &[u32], t: usize, tree: u32, key: u32) -> Look
     requires { ⌜ Ready (now ws) t tree ⌝ }
@@ -254,12 +289,6 @@ pub fn look_for(ws: &[u32], t: usize, tree: u32, key: u32) -> Look
     if root == 0 {
         return Look::Nothing;
     }
-    let n = leaf_below(ws, t, Way::Key(key), root, 16);
-    let b = t + 16 * (n as usize) - 14;
-    let e = land(ws, b, Way::Key(key));
-    let w = ws[b];
-    if e + 32 < w as usize {
-        return Look::Pair(ws[b + 1 + e], ws[b + 8 + e]);
-    }
-    Look::Nothing
+    let foot = find_leaf(ws, t, tree, key);
+    look_in(ws, t, foot.node, foot.place)
 }

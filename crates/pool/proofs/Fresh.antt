@@ -14,7 +14,7 @@ use Rattle.forest.specs.Rows.{Tree}
 use Rattle.forest.specs.Answers.{nothing, refusal}
 use Rattle.forest.specs.Pools.{inTrees, nodesFrom, root, encode, fresh, fresh-stack, formatted, formatWords, formatAnswer, Sound}
 use Rattle.forest.proofs.CountLaws.{fresh-formed}
-use Rattle.forest.proofs.ListLaws.{is, isnt, test}
+use Rattle.forest.proofs.ListLaws.{is, isnt, test, four}
 use Rattle.pool.specs.Stores.{patched, down}
 use Rattle.pool.proofs.Patches.{copied-in, set-patched, begun, patched-length}
 
@@ -143,15 +143,9 @@ module _ (T N len : ℕ) where
   pub formatted-fits : eqb (formatted T N len) 0 ≡ true → len ≡ T + 17 * N + 3
   unfolding formatted
   formatted-fits h = elim (test (leb 1 T && (leb T mostTrees && (leb N mostNodes && eqb len (T + 17 * N + 3))))) [
-    | is e ↦ eqb-true len (T + 17 * N + 3) (last (leb 1 T) (leb T mostTrees) (leb N mostNodes) _ e)
+    | is e ↦ eqb-true len (T + 17 * N + 3) (four (leb 1 T) (leb T mostTrees) (leb N mostNodes) _ e .3)
     | isnt e ↦ absurd (true≢false (sym h ∙ simp e))
   ]
-    where
-      last : (a b c d : Bool) → (a && (b && (c && d))) ≡ true → d ≡ true
-      last true true true d e = e
-      last true true false d e = absurd (true≢false (sym e))
-      last true false c d e = absurd (true≢false (sym e))
-      last false b c d e = absurd (true≢false (sym e))
 
   pub few-trees : T ≡ 0 → eqb (formatted T N len) 0 ≡ false
   unfolding formatted
@@ -204,15 +198,9 @@ pub format-sound : (m T N : ℕ) (ws : List ℕ) → formatted T N (length ws) �
 unfolding formatWords formatted
 format-sound m T N ws h =
     let e : (leb 1 T && (leb T mostTrees && (leb N mostNodes && eqb (length ws) (T + 17 * N + 3)))) ≡ true = settled _ h in
-    let a = and-parts (leb 1 T) _ e in
-    let b = and-parts (leb T mostTrees) _ (a .1) in
-    let c = and-parts (leb N mostNodes) _ (b .1) in
-    rw e (record { pool = fresh T N; formed = fresh-formed m T N (leb-true 1 T (a .0)) (leb-true T mostTrees (b .0)) (leb-true N mostNodes (c .0)); same = refl })
+    let a = four (leb 1 T) (leb T mostTrees) (leb N mostNodes) _ e in
+    rw e (record { pool = fresh T N; formed = fresh-formed m T N (leb-true 1 T (a .0)) (leb-true T mostTrees (a .1)) (leb-true N mostNodes (a .2)); same = refl })
   where
     settled : (b : Bool) → _≡_ {A = ℕ} (cond b 0 5) 0 → b ≡ true
     settled true h = refl
     settled false h = absurd (omega arith)
-
-    and-parts : (a b : Bool) → (a && b) ≡ true → (a ≡ true) × (b ≡ true)
-    and-parts true b e = (refl, e)
-    and-parts false b e = absurd (true≢false (sym e))

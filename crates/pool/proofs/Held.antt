@@ -1,17 +1,18 @@
 -- PROOFS. A store, number to words, holds rows: what a change of some numbers leaves
-use mathlib.Core.Path.{_≡_, refl, _∙_}
+use mathlib.Core.Path.{_≡_, refl, ap, _∙_}
 use mathlib.Core.List.{List, [], _∷_, _++_}
 use Prim.Native.Nat.{ℕ, zero, suc, _+_, _≤_, _<_}
 use native.Mathlib.Omega.{arith}
 use lib.ListN.{length}
 use lib.Dec.{eqb}
 use borrow.Author.Tests.{eq-eqb}
-use Rattle.forest.specs.Lists.{once, count}
+use Rattle.forest.specs.Lists.{count}
 use Rattle.forest.specs.Pairs.{Item}
-use Rattle.forest.specs.Rows.{Row, nums, itemsAt}
+use Rattle.forest.specs.Rows.{Row, nums, front, line, itemsAt}
 use Rattle.forest.specs.Trees.{numbers}
 use Rattle.forest.specs.Pools.{innerWords}
-use Rattle.forest.proofs.ListLaws.{is, isnt, test, total-append}
+use Rattle.forest.proofs.ListLaws.{is, isnt, test}
+use Rattle.forest.proofs.WordLaws.{count-at, count-append}
 use Rattle.pool.specs.Stores.{Store, put, Sixteen, numAt, upd, Holds, HoldsUp}
 use Rattle.pool.proofs.Spell.{put-same, put-other}
 
@@ -24,9 +25,12 @@ upd-nums zero f (n ∷ R) = refl
 upd-nums (suc j) f (n ∷ R) = rw (upd-nums j f R)
 
 pub numAt-counts : (R : Row) (j : ℕ) → j < length R → 1 ≤ count (numAt R j) (nums R)
-numAt-counts [] j h = absurd (omega arith)
-numAt-counts (n ∷ R) zero h = simp (eq-eqb (n .num) (n .num) refl) (omega arith)
-numAt-counts (n ∷ R) (suc j) h = omega (arith, numAt-counts R j (omega arith))
+numAt-counts R j h = count-at R j h
+
+pub line-same : (j : ℕ) (f : List Item → List Item) (R : Row) → front (f (itemsAt R j)) ≡ front (itemsAt R j) → line (upd j f R) ≡ line R
+line-same j f [] e = refl
+line-same zero f (n ∷ R) e = ap (λ (a : ℕ). (a, n .num) ∷ line R) e
+line-same (suc j) f (n ∷ R) e = ap ((front (n .items), n .num) ∷_) (line-same j f R e)
 
 module _ (enc : List Item → List ℕ) where
   pub holds-at : (st : Store) (R : Row) (j : ℕ) → j < length R → Holds enc st R → st (numAt R j) ≡ enc (itemsAt R j)
@@ -58,7 +62,7 @@ module _ (enc : List Item → List ℕ) where
 
 -- a number counted in a row and in those above it
 pub parts : (x : ℕ) (R : Row) (Rs : List Row) → count x (nums R ++ numbers Rs) ≡ count x (nums R) + count x (numbers Rs)
-parts x R Rs = total-append (λ z. once (eqb x z)) (nums R) (numbers Rs)
+parts x R Rs = count-append x (nums R) (numbers Rs)
 
 pub up-keeps : (st st′ : Store) (Ss : List Row) → ((x : ℕ) → 1 ≤ count x (numbers Ss) → st′ x ≡ st x) → HoldsUp st Ss → HoldsUp st′ Ss
 up-keeps st st′ [] k s = tt

@@ -4,3 +4,4 @@ pub mod Stacks
 pub mod Patches
 pub mod Fresh
 pub mod Held
+pub mod HeldTrees

@@ -5,6 +5,7 @@ use mathlib.Core.Path.{_≡_}
 use Prim.Native.Nat.{ℕ, zero, suc, _+_, _-_, _*_, _≤_, _<_}
 use lib.ListN.{length, take, drop, getD, set}
 use lib.Dec.{eqb}
+pub use Rattle.forest.specs.Sizes.{base}
 use Rattle.forest.specs.Sizes.{mostNodes, nodeSize}
 use Rattle.forest.specs.Lists.{pad}
 use Rattle.forest.specs.Pairs.{Item}
@@ -56,10 +57,6 @@ blocks st n (suc c) = st n ++ blocks st (suc n) c
 unfoldable pub spell : List ℕ → ℕ → Store → List ℕ → List ℕ
 spell roots N st free = (length roots ∷ roots ++ (N ∷ [])) ++ (blocks st 1 N ++ (length free ∷ pad N (reverse free)))
 
--- where the words of node n start; t trees
-abbrev pub base : ℕ → ℕ → ℕ
-base t n = t + nodeSize * n - 14
-
 -- xs with ys in the place of as many words from a on
 unfoldable pub patched : List ℕ → ℕ → List ℕ → List ℕ
 patched xs a ys = take a xs ++ (ys ++ drop (a + length ys) xs)
@@ -76,24 +73,27 @@ withBlock ws t n w = patched ws (base t n) w
 abbrev pub noWords : List ℕ
 noWords = pad nodeSize []
 
--- where the count of the free numbers stands, and what it is
+-- where the count of the free numbers stands
 abbrev pub stackAt : List ℕ → ℕ → ℕ
 stackAt ws t = t + 2 + nodeSize * getD ws (t + 1) 0
 
+-- how many numbers are free
 abbrev pub frees : List ℕ → ℕ → ℕ
 frees ws t = getD ws (stackAt ws t) 0
 
--- the top of the stack, and the words once it is taken
+-- the top of the stack
 abbrev pub topNode : List ℕ → ℕ → ℕ
 topNode ws t = getD ws (stackAt ws t + frees ws t) 0
 
+-- the words once it is taken
 unfoldable pub takenWords : List ℕ → ℕ → List ℕ
 takenWords ws t = set (set ws (stackAt ws t) (frees ws t - 1)) (stackAt ws t + frees ws t) 0
 
--- the words with n on top of the stack, and those with the words of n made zeros too
+-- the words with n on top of the stack
 unfoldable pub pushedWords : List ℕ → ℕ → ℕ → List ℕ
 pushedWords ws t n = set (set ws (stackAt ws t) (frees ws t + 1)) (stackAt ws t + (frees ws t + 1)) n
 
+-- and with the words of n made zeros too
 unfoldable pub freedWords : List ℕ → ℕ → ℕ → List ℕ
 freedWords ws t n = withBlock (pushedWords ws t n) t n noWords
 

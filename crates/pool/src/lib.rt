@@ -21,7 +21,7 @@ pub fn tree_count(ws: &[u32]) -> usize
 }
 
 // The number of nodes, N.
-pub fn node_count(ws: &[u32], t: usize) -> u32
+fn node_count(ws: &[u32], t: usize) -> u32
     requires { ⌜ t + 1 < length (now ws) ⌝ }
     ensures { λ r. ⌜ r ≡ getD (now (ws .entry)) (t + 1) 0 ⌝ }
 {

@@ -57,7 +57,7 @@ pub extern "C" fn recorder_get(words: &[u32], tree: u32, key: u32) -> Answer
     forest::numbered(map::get(words, tree, key))
 }
 
-// Files a value under a key, in place of an earlier one.
+// Files a value under a key, in place of an earlier one, which is told.
 #[no_mangle]
 pub extern "C" fn recorder_put(words: &mut [u32], tree: u32, key: u32, value: u32) -> Answer
     ensures { λ r. ⌜ Calls leafLeast (put tree key value) (now (words .entry)) (now (words .exit)) r ⌝ }
@@ -65,7 +65,7 @@ pub extern "C" fn recorder_put(words: &mut [u32], tree: u32, key: u32, value: u3
     forest::numbered(map::put(words, tree, key, value))
 }
 
-// Takes a key out, with its value.
+// Takes a key out, and tells its value.
 #[no_mangle]
 pub extern "C" fn recorder_remove(words: &mut [u32], tree: u32, key: u32) -> Answer
     ensures { λ r. ⌜ Calls leafLeast (remove tree key) (now (words .entry)) (now (words .exit)) r ⌝ }
@@ -73,7 +73,7 @@ pub extern "C" fn recorder_remove(words: &mut [u32], tree: u32, key: u32) -> Ans
     forest::numbered(map::remove(words, tree, key))
 }
 
-// Go to the first pair.
+// Go to the first pair, and tell it.
 #[no_mangle]
 pub extern "C" fn recorder_first(words: &[u32], at: Cursor) -> Moved
     ensures { λ r. ⌜ Moves leafLeast to-first at (now (words .entry)) (now (words .entry)) (r .answer) (r .cursor) ⌝ }
@@ -81,7 +81,7 @@ pub extern "C" fn recorder_first(words: &[u32], at: Cursor) -> Moved
     numbered(map::first(words, at))
 }
 
-// Go to a key, or where it would be put.
+// Go to a key and tell its value, or to where it would be put.
 #[no_mangle]
 pub extern "C" fn recorder_seek(words: &[u32], at: Cursor, key: u32) -> Moved
     ensures { λ r. ⌜ Moves leafLeast (to-key key) at (now (words .entry)) (now (words .entry)) (r .answer) (r .cursor) ⌝ }
@@ -89,7 +89,7 @@ pub extern "C" fn recorder_seek(words: &[u32], at: Cursor, key: u32) -> Moved
     numbered(map::seek(words, at, key))
 }
 
-// From one past a leaf's last entry go to the pair after it.
+// From one past a leaf's last entry go to the pair after it; nothing is told.
 #[no_mangle]
 pub extern "C" fn recorder_settle(words: &[u32], at: Cursor) -> Moved
     ensures { λ r. ⌜ Moves leafLeast to-settled at (now (words .entry)) (now (words .entry)) (r .answer) (r .cursor) ⌝ }
@@ -97,7 +97,7 @@ pub extern "C" fn recorder_settle(words: &[u32], at: Cursor) -> Moved
     numbered(map::settle(words, at))
 }
 
-// Go to the next pair.
+// Go to the next pair, and tell it; after the last the cursor is off the end.
 #[no_mangle]
 pub extern "C" fn recorder_next(words: &[u32], at: Cursor) -> Moved
     ensures { λ r. ⌜ Moves leafLeast to-next at (now (words .entry)) (now (words .entry)) (r .answer) (r .cursor) ⌝ }
@@ -105,7 +105,7 @@ pub extern "C" fn recorder_next(words: &[u32], at: Cursor) -> Moved
     numbered(map::next(words, at))
 }
 
-// Go to the pair before.
+// Go to the pair before, and tell it; on the first pair stay, and tell none.
 #[no_mangle]
 pub extern "C" fn recorder_prev(words: &[u32], at: Cursor) -> Moved
     ensures { λ r. ⌜ Moves leafLeast to-prev at (now (words .entry)) (now (words .entry)) (r .answer) (r .cursor) ⌝ }
@@ -113,7 +113,7 @@ pub extern "C" fn recorder_prev(words: &[u32], at: Cursor) -> Moved
     numbered(map::prev(words, at))
 }
 
-// Takes out the pair that the cursor is on, and goes to the next.
+// Takes out the pair that the cursor is on, tells its value, and goes to the next; on no pair nothing happens.
 #[no_mangle]
 pub extern "C" fn recorder_remove_at(words: &mut [u32], at: Cursor) -> Moved
     ensures { λ r. ⌜ Moves leafLeast to-remove at (now (words .entry)) (now (words .exit)) (r .answer) (r .cursor) ⌝ }
@@ -141,7 +141,7 @@ pub extern "C" fn recorder_sound_get(words: &[u32], tree: u32, key: u32) -> Answ
     forest::numbered(map::sound_get(words, tree, key))
 }
 
-// Files a value under a key, in place of an earlier one.
+// Files a value under a key, in place of an earlier one, which is told.
 #[no_mangle]
 pub extern "C" fn recorder_sound_put(words: &mut [u32], tree: u32, key: u32, value: u32) -> Answer
     requires { ⌜ Sound leafLeast (now words) ⌝ }
@@ -150,7 +150,7 @@ pub extern "C" fn recorder_sound_put(words: &mut [u32], tree: u32, key: u32, val
     forest::numbered(map::sound_put(words, tree, key, value))
 }
 
-// Takes a key out, with its value.
+// Takes a key out, and tells its value.
 #[no_mangle]
 pub extern "C" fn recorder_sound_remove(words: &mut [u32], tree: u32, key: u32) -> Answer
     requires { ⌜ Sound leafLeast (now words) ⌝ }
@@ -159,7 +159,7 @@ pub extern "C" fn recorder_sound_remove(words: &mut [u32], tree: u32, key: u32) 
     forest::numbered(map::sound_remove(words, tree, key))
 }
 
-// Go to the first pair.
+// Go to the first pair, and tell it.
 #[no_mangle]
 pub extern "C" fn recorder_sound_first(words: &[u32], at: Cursor) -> Moved
     requires { ⌜ Sound leafLeast (now words) ⌝ }
@@ -168,7 +168,7 @@ pub extern "C" fn recorder_sound_first(words: &[u32], at: Cursor) -> Moved
     numbered(map::sound_first(words, at))
 }
 
-// Go to a key, or where it would be put.
+// Go to a key and tell its value, or to where it would be put.
 #[no_mangle]
 pub extern "C" fn recorder_sound_seek(words: &[u32], at: Cursor, key: u32) -> Moved
     requires { ⌜ Sound leafLeast (now words) ⌝ }
@@ -177,7 +177,7 @@ pub extern "C" fn recorder_sound_seek(words: &[u32], at: Cursor, key: u32) -> Mo
     numbered(map::sound_seek(words, at, key))
 }
 
-// From one past a leaf's last entry go to the pair after it.
+// From one past a leaf's last entry go to the pair after it; nothing is told.
 #[no_mangle]
 pub extern "C" fn recorder_sound_settle(words: &[u32], at: Cursor) -> Moved
     requires { ⌜ Stood (now words) at ⌝ }
@@ -186,7 +186,7 @@ pub extern "C" fn recorder_sound_settle(words: &[u32], at: Cursor) -> Moved
     numbered(map::sound_settle(words, at))
 }
 
-// Go to the next pair.
+// Go to the next pair, and tell it; after the last the cursor is off the end.
 #[no_mangle]
 pub extern "C" fn recorder_sound_next(words: &[u32], at: Cursor) -> Moved
     requires { ⌜ Stood (now words) at ⌝ }
@@ -195,7 +195,7 @@ pub extern "C" fn recorder_sound_next(words: &[u32], at: Cursor) -> Moved
     numbered(map::sound_next(words, at))
 }
 
-// Go to the pair before.
+// Go to the pair before, and tell it; on the first pair stay, and tell none.
 #[no_mangle]
 pub extern "C" fn recorder_sound_prev(words: &[u32], at: Cursor) -> Moved
     requires { ⌜ Stood (now words) at ⌝ }
@@ -204,7 +204,7 @@ pub extern "C" fn recorder_sound_prev(words: &[u32], at: Cursor) -> Moved
     numbered(map::sound_prev(words, at))
 }
 
-// Takes out the pair that the cursor is on, and goes to the next.
+// Takes out the pair that the cursor is on, tells its value, and goes to the next; on no pair nothing happens.
 #[no_mangle]
 pub extern "C" fn recorder_sound_remove_at(words: &mut [u32], at: Cursor) -> Moved
     requires { ⌜ Stood (now words) at ⌝ }

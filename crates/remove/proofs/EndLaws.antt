@@ -2,7 +2,7 @@
 use mathlib.Core.Path.{_≡_, refl, sym, ap, _∙_, subst}
 use mathlib.Core.List.{List, [], _∷_, _++_}
 use mathlib.Core.Bool.{Bool, true, false, cond}
-use Prim.Native.Nat.{ℕ, suc, _+_, _-_, _≤_, _<_}
+use Prim.Native.Nat.{ℕ, _+_, _-_, _≤_, _<_}
 use native.Mathlib.Omega.{arith}
 use lib.ListN.{length, getD}
 use lib.Dec.{eqb}
@@ -11,9 +11,9 @@ use Rattle.forest.specs.Lists.{removeAt, once, count, parent, offset}
 use Rattle.forest.specs.Rows.{Row, nums, sizes, dropRow}
 use Rattle.forest.specs.Trees.{numbers, dropAt, dropUp, freedUp, lost}
 use Rattle.forest.specs.Pools.{rootAbove, leafWords}
-use Rattle.forest.proofs.ListLaws.{is, isnt, test, total-append}
+use Rattle.forest.proofs.ListLaws.{is, isnt, test}
 use Rattle.forest.proofs.RowLaws.{dropRow-kept, dropRow-lost}
-use Rattle.forest.proofs.TowerLaws.{tower-levels, drop-weight}
+use Rattle.forest.proofs.TowerLaws.{tower-levels, drop-weight, went-length}
 use Rattle.forest.proofs.PoolLaws.{total-push}
 use Rattle.crit.specs.States.{State}
 use Rattle.crit.specs.Paths.{numAt, Stacked}
@@ -26,15 +26,16 @@ use Rattle.heal.proofs.HealUp.{Mended}
 use Rattle.remove.proofs.HealEnd.{root-shape}
 use Rattle.remove.proofs.HealTrim.{freeAll}
 use Rattle.forest.proofs.UniqueLaws.{nums-length}
+use Rattle.forest.proofs.WordLaws.{count-append}
+
+two-nils : (b : Bool) → cond {A = List Row} b [] [] ≡ []
+two-nils true = refl
+two-nils false = refl
 
 -- the root keeps its number while a tree heals
 pub root-drop : (X Y S : Row) (Ss : List Row) (j : ℕ) (rows : List Row) → HealStack.SameShape rows (dropUp j (S ∷ Ss)) → Stacked X rows → Stacked Y (S ∷ Ss) → rootAbove X (dropUp j (S ∷ Ss)) ≡ rootAbove Y (S ∷ Ss)
 root-drop X Y S [] j rows sh sx sy = top rows sh sx
   where
-    two-nils : (b : Bool) → cond {A = List Row} b [] [] ≡ []
-    two-nils true = refl
-    two-nils false = refl
-
     top : (rows : List Row) → HealStack.SameShape rows (dropUp j (S ∷ [])) → Stacked X rows → rootAbove X (dropUp j (S ∷ [])) ≡ rootAbove Y (S ∷ [])
     top rows sh sx = at rows (subst (λ (Zs : List Row). HealStack.SameShape rows (dropAt j S ∷ Zs)) (two-nils (lost (dropAt j S) S)) sh) sx
       where
@@ -62,10 +63,6 @@ module _ {M L : Row} {Rs : List Row} {i : ℕ} {s s′ : State} (m : Mended leaf
   pub root-same : rootAbove M (m .rows) ≡ rootAbove L Rs
   root-same = from Rs (m .shape) stacked
     where
-      two-nils : (b : Bool) → cond {A = List Row} b [] [] ≡ []
-      two-nils true = refl
-      two-nils false = refl
-
       kept : length L ≡ 1 → nums M ≡ nums L
       kept one = ap nums is-M ∙ dropRow-kept 7 (parent (sizes L) i) (offset (sizes L) i) L (omega (arith, ap length is-M))
 
@@ -77,15 +74,7 @@ module _ {M L : Row} {Rs : List Row} {i : ℕ} {s s′ : State} (m : Mended leaf
       ]
 
   pub rows-length : length (m .rows) ≡ length Rs
-  rows-length = HealNext.shape-length (m .shape) ∙ either (lost M L)
-    where
-      up-length : (i : ℕ) (Ss : List Row) → length (dropUp i Ss) ≡ length Ss
-      up-length i [] = refl
-      up-length i (S ∷ Ss) = elim (test (lost (dropAt i S) S)) [ is e ↦ simp e (ap suc (up-length (parent (sizes S) i) Ss)) | isnt e ↦ simp e ]
-
-      either : (b : Bool) → length (cond b (dropUp (parent (sizes L) i) Rs) Rs) ≡ length Rs
-      either true = up-length (parent (sizes L) i) Rs
-      either false = refl
+  rows-length = HealNext.shape-length (m .shape) ∙ went-length (lost M L) (parent (sizes L) i) Rs
 
   -- no number is lost
   balance : Rattle.forest.specs.Rows.Tower L Rs → (x : ℕ) → count x (nums M) + count x (numbers above) + count x (cond (lost M L) (numAt L (parent (sizes L) i) ∷ freedUp (parent (sizes L) i) Rs) []) ≡ count x (nums L) + count x (numbers Rs)
@@ -105,7 +94,7 @@ module _ {M L : Row} {Rs : List Row} {i : ℕ} {s s′ : State} (m : Mended leaf
       let a : count x (s′ .free) ≡ count x (cond (lost M L) (numAt L (parent (sizes L) i) ∷ freedUp (parent (sizes L) i) Rs) []) + count x (s .free) =
       ap (count x) (m .free) ∙ total-push (λ z. once (eqb x z)) (cond (lost M L) (numAt L (parent (sizes L) i) ∷ freedUp (parent (sizes L) i) Rs) []) (s .free) in
       let b : count x (numbers (m .rows)) ≡ count x (numbers above) = ap (count x) (HealNext.shape-numbers (m .shape)) in
-      omega (arith, balance tower x, w x, total-append (λ z. once (eqb x z)) (nums M) (numbers (m .rows)), total-append (λ z. once (eqb x z)) (nums L) (numbers Rs))
+      omega (arith, balance tower x, w x, count-append x (nums M) (numbers (m .rows)), count-append x (nums L) (numbers Rs))
 
 pub freeAll-path : (xs : List ℕ) (s : State) → ((freeAll xs s) .ns ≡ s .ns) × ((freeAll xs s) .ps ≡ s .ps) × ((freeAll xs s) .live ≡ s .live)
 freeAll-path [] s = (refl, refl, refl)

@@ -4,16 +4,16 @@ use mathlib.Core.List.{List, [], _∷_, _++_}
 use mathlib.Core.Bool.{Bool, true, false, cond}
 use Prim.Native.Nat.{ℕ, suc, _+_, _-_, _*_, _≤_, _<_}
 use native.Mathlib.Omega.{arith}
-use lib.ListN.{length, getD, set, length-map}
+use lib.ListN.{length, getD, set}
 use lib.Dec.{eqb, leb}
 use borrow.Author.Tests.{ltb-true, ltb-false, leb-true, leb-false}
 use Rattle.forest.specs.Lists.{removeAt, sum, once, count, pad, parent, offset}
-use Rattle.forest.specs.Rows.{Row, Tree, size, nums, sizes, joined, refresh, Fill, Tower, dropRow}
+use Rattle.forest.specs.Rows.{Row, Tree, nums, sizes, joined, refresh, Fill, Tower, dropRow}
 use Rattle.forest.specs.Trees.{numbers, dropUp, freedUp, trim, trimmed, lost}
 use Rattle.forest.specs.Pools.{leafWords, pushAll, rootAbove, nodeWords, used}
-use Rattle.forest.proofs.ListLaws.{is, isnt, test, total-append, parent-lt, offset-lt, parent-start, length-removeAt}
-use Rattle.forest.proofs.RowLaws.{sum-sizes, dropRow-joined, dropRow-kept, dropRow-lost}
-use Rattle.forest.proofs.TowerLaws.{tower-levels, drop-weight, trim-weight, refresh-numbers}
+use Rattle.forest.proofs.ListLaws.{is, isnt, test, offset-lt, parent-start, length-removeAt}
+use Rattle.forest.proofs.RowLaws.{sum-sizes, dropRow-joined, dropRow-kept, dropRow-lost, parent-there}
+use Rattle.forest.proofs.TowerLaws.{tower-levels, drop-weight, trim-weight, refresh-numbers, some-length}
 use Rattle.crit.specs.States.{State}
 use Rattle.heal.specs.Steps.{freeNode, removeAtCursor, leafOps, innerOps}
 use Rattle.remove.specs.Ends.{shrink}
@@ -28,6 +28,7 @@ use Rattle.heal.proofs.LeafOps.{leaf-law, leaf-front}
 use Rattle.remove.proofs.HealTrim.{freeAll, freeAll-free, freeAll-keeps}
 use Rattle.remove.proofs.HealEnd
 use Rattle.remove.proofs.HealPool.{HoldsTree, pool-words}
+use Rattle.forest.proofs.WordLaws.{count-append}
 
 pub tower-stacked : (R : Row) (Rs : List Row) → Tower R Rs → HealStack.Stacked R Rs
 tower-stacked R [] w = w
@@ -70,13 +71,13 @@ module _ (low : ℕ) (two : 2 ≤ low) (half : 2 * low ≤ 8) (L : Row) (Rs : Li
   above = cond (lost M L) (dropUp (parent (sizes L) i) Rs) Rs
 
   parts : (x : ℕ) → count x (nums L ++ numbers Rs) ≡ count x (nums L) + count x (numbers Rs)
-  parts x = total-append (λ z. once (eqb x z)) (nums L) (numbers Rs)
+  parts x = count-append x (nums L) (numbers Rs)
 
   pub once-tree : HealMem.Once (nums L ++ numbers Rs)
   once-tree x = omega (arith, each x)
 
   pub par-in : parent (sizes L) i < length L
-  par-in = rw (length-map L size) at (parent-lt (sizes L) i b)
+  par-in = parent-there L i b
 
   pub m : Mended leafWords M w i L Rs s s′
   m = removed (leaf-law low two half) inner-law key leaf-front L Rs i s b fill (tower-stacked L Rs tower) once-tree (holds .0) (holds .1) place path more
@@ -102,11 +103,7 @@ module _ (low : ℕ) (two : 2 ≤ low) (half : 2 * low ≤ 8) (L : Row) (Rs : Li
   some-M =
       let j : joined M ≡ removeAt i (joined L) = rw (dropRow-joined 7 (parent (sizes L) i) (offset (sizes L) i) L par-in (offset-lt (sizes L) i b), parent-start (sizes L) i b) in
       let z : suc (sum (sizes M)) ≡ sum (sizes L) = omega (arith, sum-sizes M, sum-sizes L, ap length j, length-removeAt i (joined L) (omega (arith, sum-sizes L))) in
-      has-some M (omega arith)
-    where
-      has-some : (R : Row) → 1 ≤ sum (sizes R) → 1 ≤ length R
-      has-some [] h = h
-      has-some (n ∷ R) h = omega arith
+      some-length M (omega arith)
 
   abbrev pub new : List Row
   new = refresh M (trim M above)
@@ -118,7 +115,7 @@ module _ (low : ℕ) (two : 2 ≤ low) (half : 2 * low ≤ 8) (L : Row) (Rs : Li
   trims x = rw (refresh-numbers M (trim M above)) (trim-weight (λ z. once (eqb x z)) M above)
 
   new-parts : (x : ℕ) → count x (nums M ++ numbers new) ≡ count x (nums M) + count x (numbers new)
-  new-parts x = total-append (λ z. once (eqb x z)) (nums M) (numbers new)
+  new-parts x = count-append x (nums M) (numbers new)
 
   rows-counts : (x : ℕ) → count x (numbers (m .rows)) ≡ count x (numbers above)
   rows-counts x = ap (count x) (Rattle.crit.proofs.HealNext.shape-numbers (m .shape))

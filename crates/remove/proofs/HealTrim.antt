@@ -7,13 +7,13 @@ use native.Mathlib.Omega.{arith}
 use lib.ListN.{length, getD, length-map}
 use lib.Dec.{ltb, eqb}
 use borrow.Author.Tests.{lt-ltb, le-ltb, ltb-true, ltb-false, eqb-false, eq-eqb, ne-eqb}
-use Rattle.forest.specs.Lists.{sum, once, count, pad, parent}
+use Rattle.forest.specs.Lists.{sum, once, pad, parent}
 use Rattle.forest.specs.Pairs.{Item}
 use Rattle.forest.specs.Rows.{Row, size, nums, sizes, joined, itemsAt}
 use Rattle.forest.specs.Trees.{numbers, trim, trimmed, fromTop}
 use Rattle.forest.specs.Pools.{innerWords, pushAll, rootAbove}
 use Rattle.forest.proofs.ListLaws.{is, isnt, test}
-use Rattle.forest.proofs.TowerLaws.{trim-weight, top-weight}
+use Rattle.forest.proofs.TowerLaws.{trim-weight, top-weight, some-length}
 use Rattle.crit.specs.States.{State}
 use Rattle.heal.specs.Steps.{freeNode}
 use Rattle.remove.specs.Ends.{shrink}
@@ -62,6 +62,13 @@ one-joined [] e = absurd (omega arith)
 one-joined (n ∷ []) e = append-nil (n .items)
 one-joined (n ∷ m ∷ R) e = absurd (omega arith)
 
+-- a single node keeps its words while those above it are freed
+top-words : (S : Row) (Ss : List Row) (s : State) → length S ≡ 1 → HealMem.Once (numbers (S ∷ Ss)) → HealMem.HoldsUp (s .st) (S ∷ Ss) → (freeAll (fromTop Ss) s) .st (HealRows.numAt S 0) ≡ innerWords (itemsAt S 0)
+top-words S Ss s e o hu =
+    let a = HealMem.once-append (nums S) (numbers Ss) o in
+    let q = HealMem.numAt-counts S 0 (omega arith) in
+    freeAll-keeps (fromTop Ss) s (HealRows.numAt S 0) (omega (arith, a (HealRows.numAt S 0), top-weight (λ y. once (eqb (HealRows.numAt S 0) y)) Ss)) ∙ HealMem.holds-at innerWords (s .st) S 0 (omega arith) (hu .0)
+
 -- above a single node every root goes
 pub single : (R : Row) (Ss : List Row) (f : ℕ) (s : State) → length R ≡ 1 → HealStack.Stacked R Ss → HealMem.Once (numbers Ss) → HealMem.HoldsUp (s .st) Ss →
     shrink (length Ss + f) s (rootAbove R Ss) ≡ shrink f (freeAll (fromTop Ss) s) (HealRows.numAt R 0)
@@ -74,13 +81,11 @@ single R (S ∷ Ss) f s e st o hu =
     let a = HealMem.once-append (nums S) (numbers Ss) o in
     let z : suc (length Ss) + f ≡ length Ss + suc f = omega arith in
     let ih = single S Ss (suc f) s lS (st .2) (λ x. omega (arith, a x)) (hu .1) in
-    let c : count (HealRows.numAt S 0) (fromTop Ss) ≡ 0 =
-    (let q = HealMem.numAt-counts S 0 (omega arith) in omega (arith, a (HealRows.numAt S 0), top-weight (λ y. once (eqb (HealRows.numAt S 0) y)) Ss)) in
-    let w : (freeAll (fromTop Ss) s) .st (HealRows.numAt S 0) ≡ innerWords (itemsAt S 0) = freeAll-keeps (fromTop Ss) s (HealRows.numAt S 0) c ∙ HealMem.holds-at innerWords (s .st) S 0 (omega arith) (hu .0) in
+    let w = top-words S Ss s lS o hu in
     let l1 : length (itemsAt S 0) ≡ 1 = sym (one-size S lS) ∙ u ∙ e in
     let t : eqb (getD ((freeAll (fromTop Ss) s) .st (HealRows.numAt S 0)) 0 0) 16 ≡ true = rw w (eq-eqb (16 + (length (itemsAt S 0) - 1)) 16 (omega arith)) in
     let child : getD ((freeAll (fromTop Ss) s) .st (HealRows.numAt S 0)) 8 0 ≡ HealRows.numAt R 0 =
-    rw w (HealPath.inner-child (0, 0) 0 (itemsAt S 0) (omega arith) (omega arith) ∙ ap (λ (l : List Item). (getD l 0 (0, 0)) .1) (sym (one-joined S lS)) ∙
+    rw w (HealPath.inner-child (itemsAt S 0) 0 (omega arith) ∙ ap (λ (l : List Item). (getD l 0 (0, 0)) .1) (sym (one-joined S lS)) ∙
     HealStack.alike-val (0, 0) 0 (st .0) ∙ ap (λ (x : Item). x .1) (HealRows.line-at (0, 0) R 0 (omega arith))) in
     rw z (ih ∙ simp t (ap (λ (n : ℕ). shrink f (freeNode (freeAll (fromTop Ss) s) (HealRows.numAt S 0)) n) child) ∙
     ap (λ (t : State). shrink f t (HealRows.numAt R 0)) (sym (freeAll-append (fromTop Ss) (nums S) s ∙ ap (λ (l : List ℕ). freeAll l (freeAll (fromTop Ss) s)) (one-row S lS))))
@@ -88,10 +93,6 @@ single R (S ∷ Ss) f s e st o hu =
 short : (R : Row) (Ss : List Row) → length R < 2 → (trim R Ss ≡ []) × (trimmed R Ss ≡ fromTop Ss)
 short R [] h = (refl, refl)
 short R (S ∷ Ss) h = simp (lt-ltb (length R) 2 h) (refl, refl)
-
-some-row : (S : Row) → 2 ≤ sum (sizes S) → 1 ≤ length S
-some-row [] h = absurd (omega arith)
-some-row (n ∷ S) h = omega arith
 
 -- over two nodes and more the last root stays
 pub several : (R : Row) (Ss : List Row) (f : ℕ) (s : State) → 2 ≤ length R → HealStack.Stacked R Ss → HealMem.Once (numbers Ss) → HealMem.HoldsUp (s .st) Ss →
@@ -106,10 +107,8 @@ several R (S ∷ Ss) f s e st o hu =
       | isnt g ↦ rw z (simp r (several S Ss (suc f) s (ltb-false _ _ g) (st .2) (λ x. omega (arith, a x)) (hu .1)))
       | is g ↦
           let g2 = ltb-true (length S) 2 g in
-          let lS : length S ≡ 1 = (let q = some-row S (omega arith) in omega arith) in
-          let c : count (HealRows.numAt S 0) (fromTop Ss) ≡ 0 =
-          (let q = HealMem.numAt-counts S 0 (omega arith) in omega (arith, a (HealRows.numAt S 0), top-weight (λ y. once (eqb (HealRows.numAt S 0) y)) Ss)) in
-          let w : (freeAll (fromTop Ss) s) .st (HealRows.numAt S 0) ≡ innerWords (itemsAt S 0) = freeAll-keeps (fromTop Ss) s (HealRows.numAt S 0) c ∙ HealMem.holds-at innerWords (s .st) S 0 (omega arith) (hu .0) in
+          let lS : length S ≡ 1 = (let q = some-length S (omega arith) in omega arith) in
+          let w = top-words S Ss s lS o hu in
           let l2 : 2 ≤ length (itemsAt S 0) = omega (arith, one-size S lS) in
           let t : eqb (getD ((freeAll (fromTop Ss) s) .st (HealRows.numAt S 0)) 0 0) 16 ≡ false = rw w (ne-eqb (16 + (length (itemsAt S 0) - 1)) 16 (omega arith)) in
           let h = short S Ss g2 in
@@ -139,7 +138,7 @@ trim-stacked R (S ∷ Ss) h s = elim (test (ltb (length R) 2)) [
   | is e ↦ simp e (let z = ltb-true (length R) 2 e in omega arith)
   | isnt e ↦
       let z = ltb-false (length R) 2 e in
-      simp e (s .0, s .1, trim-stacked S Ss (some-row S (omega (arith, HealStack.stacked-sum R S (s .0)))) (s .2))
+      simp e (s .0, s .1, trim-stacked S Ss (some-length S (omega (arith, HealStack.stacked-sum R S (s .0)))) (s .2))
 ]
 
 -- the freed words touch no row that stays

@@ -13,7 +13,7 @@ use Rattle.forest.specs.Trees.{numbers, pairs, leafOf, removeTree, freed, dropL
 use Rattle.forest.specs.Pools.{Pool, WellFormed, encode, treeOf, nodeWords, leafWords}
 use Rattle.forest.specs.Cursors.{move, to-remove, cursorAt}
 use Rattle.forest.specs.declared.Cursor.{Cursor}
-use Rattle.forest.proofs.ListLaws.{is, isnt, test, total-append, length-removeAt}
+use Rattle.forest.proofs.ListLaws.{is, isnt, test, length-removeAt}
 use Rattle.pool.specs.Stores.{put, block, freedWords, noWords, Placed, Freeable}
 use Rattle.crit.specs.Paths.{numAt}
 use Rattle.crit.specs.Asks.{moved, Spelt}
@@ -28,6 +28,7 @@ use Rattle.remove.proofs.HealTrim.{one-size}
 use Rattle.remove.proofs.HealPool.{pool-words}
 use Rattle.remove.proofs.StartLaws.{Begun, begun, good, e-in, i, size-is, s0, m0, spelt0, path0, holds0, within0, before0, each0, pairs-are}
 use Rattle.remove.proofs.RemoveLaws.{there-it-is, sought, encoded, cursor-is, root-in, root-set}
+use Rattle.forest.proofs.WordLaws.{count-append}
 
 -- two leaves have two pairs
 two-pairs : (gs : List ℕ) → HealStack.Some gs → length gs ≤ sum gs
@@ -43,7 +44,7 @@ module _ (p : Pool) (c : Cursor) (formed : WellFormed 3 p) (b : Begun p c) where
       from [] h w = absurd (omega arith)
       from (S ∷ Ss) h w = omega (arith, two-pairs (sizes (b .L)) (HealStack.fill-some 3 7 (sizes (b .L)) (omega arith) ((good p c formed b) .1)), lib.ListN.length-map (b .L) size)
 
-  single : length (b .Rs) ≡ 0 → length (b .L) ≡ 1
+  pub single : length (b .Rs) ≡ 0 → length (b .L) ≡ 1
   single h = from (b .Rs) h ((good p c formed b) .2)
     where
       from : (Rs : List Row) → length Rs ≡ 0 → Tower (b .L) Rs → length (b .L) ≡ 1
@@ -53,14 +54,14 @@ module _ (p : Pool) (c : Cursor) (formed : WellFormed 3 p) (b : Begun p c) where
   abbrev n : ℕ
   n = getD (c .nodes) (length (b .Rs)) 0
 
-  n-is : getD (c .nodes) (length (b .Rs)) 0 ≡ numAt (b .L) (b .j)
+  pub n-is : getD (c .nodes) (length (b .Rs)) 0 ≡ numAt (b .L) (b .j)
   n-is = HealPath.path-node (b .L) (b .j) (b .Rs) ((s0 p c formed b) .ns) ((s0 p c formed b) .ps) (path0 p c formed b)
 
-  n-in : (1 ≤ getD (c .nodes) (length (b .Rs)) 0) × (getD (c .nodes) (length (b .Rs)) 0 ≤ p .count)
+  pub n-in : (1 ≤ getD (c .nodes) (length (b .Rs)) 0) × (getD (c .nodes) (length (b .Rs)) 0 ≤ p .count)
   n-in = rw n-is (within-named (p .count) (nums (b .L) ++ numbers (b .Rs)) (p .free) (within0 p c formed b) (numAt (b .L) (b .j))
-      (omega (arith, HealMem.numAt-counts (b .L) (b .j) (b .jl), total-append (λ z. once (eqb (numAt (b .L) (b .j)) z)) (nums (b .L)) (numbers (b .Rs)))))
+      (omega (arith, HealMem.numAt-counts (b .L) (b .j) (b .jl), count-append (numAt (b .L) (b .j)) (nums (b .L)) (numbers (b .Rs)))))
 
-  n-words : nodeWords (p .trees) (getD (c .nodes) (length (b .Rs)) 0) ≡ leafWords (itemsAt (b .L) (b .j))
+  pub n-words : nodeWords (p .trees) (getD (c .nodes) (length (b .Rs)) 0) ≡ leafWords (itemsAt (b .L) (b .j))
   n-words = rw n-is (HealMem.holds-at leafWords (nodeWords (p .trees)) (b .L) (b .j) (b .jl) ((holds0 p c formed b) .0))
 
   module _ {ws : List ℕ} {t : ℕ} (same : encode p ≡ ws) (tr : t ≡ length (p .trees)) where
@@ -105,7 +106,7 @@ module _ (p : Pool) (c : Cursor) (formed : WellFormed 3 p) (b : Begun p c) where
       last-room : length (p .free) < p .count
       last-room =
           room (p .count) (numAt (b .L) (b .j)) [] (p .free)
-          (λ x. omega (arith, within0 p c formed b x, HealMem.gone-count (b .L) (b .j) x (b .jl), total-append (λ z. once (eqb x z)) (nums (b .L)) (numbers (b .Rs))))
+          (λ x. omega (arith, within0 p c formed b x, HealMem.gone-count (b .L) (b .j) x (b .jl), count-append x (nums (b .L)) (numbers (b .Rs))))
 
       pub last-freeable : Freeable ws t (getD (c .nodes) 0 0)
       last-freeable = spelt-freeable sp (getD (c .nodes) 0 0) (last-in .0) (last-in .1) last-room

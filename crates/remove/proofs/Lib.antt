@@ -11,4 +11,6 @@ pub mod EndLaws
 pub mod RemoveLaws
 pub mod LastLaws
 pub mod ShellLaws
-pub mod AskLaws
+pub mod GapLaws
+pub mod OnlyLaws
+pub mod KeyLaws

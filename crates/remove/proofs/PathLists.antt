@@ -1,9 +1,9 @@
 -- PROOFS. A cursor's levels as a path through rows, and back
 use mathlib.Core.Path.{_≡_, refl, sym, ap, _∙_}
 use mathlib.Core.List.{List, [], _∷_, map}
-use Prim.Native.Nat.{ℕ, zero, suc, _+_, _-_, _≤_, _<_}
+use Prim.Native.Nat.{ℕ, suc, _+_, _-_, _≤_, _<_}
 use native.Mathlib.Omega.{arith}
-use lib.ListN.{length, getD, length-map, take, drop, length-take, length-drop}
+use lib.ListN.{length, getD, length-map, take, drop, length-take, length-drop, List·getD-map}
 use lib.Seq.{ext-getD, getD-drop, getD-take}
 use lib.Dec.{eqb}
 use borrow.Author.Tests.{eqb-true, eqb-false}
@@ -22,21 +22,12 @@ nodeOf q = q .0
 abbrev placeOf : ℕ × ℕ → ℕ
 placeOf q = q .1
 
-pub up-length : (j : ℕ) (Ss : List Row) (below : Levels) → length (pathUp j Ss below) ≡ length Ss + length below
-up-length j [] below = omega arith
-up-length j (S ∷ Ss) below = up-length (parent (sizes S) j) Ss ((getD (nums S) (parent (sizes S) j) 0, offset (sizes S) j) ∷ below) ∙ omega arith
-
 -- what stands below
 up-below : (j : ℕ) (Ss : List Row) (below : Levels) (i : ℕ) → getD (pathUp j Ss below) (length Ss + i) (0, 0) ≡ getD below i (0, 0)
 up-below j [] below i = ap (λ (k : ℕ). getD below k (0, 0)) (omega arith)
 up-below j (S ∷ Ss) below i =
     let z : suc (length Ss) + i ≡ length Ss + suc i = omega arith in
     rw z (up-below (parent (sizes S) j) Ss ((getD (nums S) (parent (sizes S) j) 0, offset (sizes S) j) ∷ below) (suc i))
-
-map-at : (f : ℕ × ℕ → ℕ) → f (0, 0) ≡ 0 → (xs : Levels) (i : ℕ) → getD (map f xs) i 0 ≡ f (getD xs i (0, 0))
-map-at f z [] i = sym z
-map-at f z (x ∷ xs) zero = refl
-map-at f z (x ∷ xs) (suc i) = map-at f z xs i
 
 -- a path list is a path
 pub up-path : (R : Row) (j e : ℕ) (Ss : List Row) (below : Levels) →
@@ -48,8 +39,8 @@ up-path R j e (S ∷ Ss) below =
     let z0 : length Ss ≡ length Ss + 0 = omega arith in
     let a = up-below (parent (sizes S) j) Ss ((getD (nums S) (parent (sizes S) j) 0, offset (sizes S) j) ∷ (getD (nums R) j 0, e) ∷ below) 1 in
     let b = up-below (parent (sizes S) j) Ss ((getD (nums S) (parent (sizes S) j) 0, offset (sizes S) j) ∷ (getD (nums R) j 0, e) ∷ below) 0 in (
-      map-at nodeOf refl P (suc (length Ss)) ∙ ap (λ (k : ℕ). nodeOf (getD P k (0, 0))) z1 ∙ ap nodeOf a,
-      map-at placeOf refl P (length Ss) ∙ ap (λ (k : ℕ). placeOf (getD P k (0, 0))) z0 ∙ ap placeOf b,
+      List·getD-map nodeOf P (suc (length Ss)) (0, 0) ∙ ap (λ (k : ℕ). nodeOf (getD P k (0, 0))) z1 ∙ ap nodeOf a,
+      List·getD-map placeOf P (length Ss) (0, 0) ∙ ap (λ (k : ℕ). placeOf (getD P k (0, 0))) z0 ∙ ap placeOf b,
       up-path S (parent (sizes S) j) (offset (sizes S) j) Ss ((getD (nums R) j 0, e) ∷ below),
     )
 
@@ -57,7 +48,7 @@ up-path R j e (S ∷ Ss) below =
 pub up-place : (R : Row) (j e : ℕ) (Ss : List Row) → getD (map placeOf (pathUp j Ss ((getD (nums R) j 0, e) ∷ []))) (length Ss) 0 ≡ e
 up-place R j e Ss =
     let z0 : length Ss ≡ length Ss + 0 = omega arith in
-    map-at placeOf refl (pathUp j Ss ((getD (nums R) j 0, e) ∷ [])) (length Ss) ∙ ap (λ (k : ℕ). placeOf (getD (pathUp j Ss ((getD (nums R) j 0, e) ∷ [])) k (0, 0))) z0 ∙ ap placeOf (up-below j Ss ((getD (nums R) j 0, e) ∷ []) 0)
+    List·getD-map placeOf (pathUp j Ss ((getD (nums R) j 0, e) ∷ [])) (length Ss) (0, 0) ∙ ap (λ (k : ℕ). placeOf (getD (pathUp j Ss ((getD (nums R) j 0, e) ∷ [])) k (0, 0))) z0 ∙ ap placeOf (up-below j Ss ((getD (nums R) j 0, e) ∷ []) 0)
 
 -- paths to one node agree
 pub same-path : (R : Row) (j : ℕ) (Ss : List Row) (ns ps ns′ ps′ : ℕ → ℕ) → Path R j Ss ns ps → Path R j Ss ns′ ps′ → (l : ℕ) → (l ≤ length Ss → ns l ≡ ns′ l) × (l < length Ss → ps l ≡ ps′ l)

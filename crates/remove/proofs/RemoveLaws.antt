@@ -21,7 +21,7 @@ use Rattle.forest.proofs.TowerLaws.{tower-some}
 use Rattle.forest.proofs.PoolLaws.{call-done, call-free}
 use Rattle.forest.proofs.CursorLaws.{spot-path, seek-pair}
 use Rattle.forest.proofs.CursorCalls.{move-done}
-use Rattle.forest.proofs.StandLaws.{path-in, stands-yes}
+use Rattle.forest.proofs.StandLaws.{path-in, stands-yes, length-pathUp}
 use Rattle.pool.specs.Stores.{spell}
 use Rattle.pool.proofs.Spell.{encode-spell, spell-ext}
 use Rattle.pool.proofs.Bridges.{spell-root, spell-set-root}
@@ -68,7 +68,7 @@ module _ (p : Pool) (c : Cursor) (formed : WellFormed 3 p) (b : Begun p c) where
 
   at-spot : spotOf (treeOf p (c .tree)) (pathIn c) ≡ on (b .j) (b .e)
   at-spot =
-      let lp : length (P p c formed b) ≤ 16 = omega (arith, PathLists.up-length (b .j) (b .Rs) ((getD (nums (b .L)) (b .j) 0, b .e) ∷ []), levels p c formed b) in
+      let lp : length (P p c formed b) ≤ 16 = omega (arith, length-pathUp (b .j) (b .Rs) ((getD (nums (b .L)) (b .j) 0, b .e) ∷ []), levels p c formed b) in
       let q : pathIn c ≡ P p c formed b = ap pathIn (sym (b .cur)) ∙ path-in (c .tree) (P p c formed b) lp in
       rw (q, b .is) (spot-path 3 (b .L ∷ b .Rs) (on (b .j) (b .e)) (good p c formed b) (b .jl, omega (arith, e-in p c formed b)))
 
@@ -267,7 +267,7 @@ module _ (p : Pool) (c : Cursor) (formed : WellFormed 3 p) (b : Begun p c) where
               let e′ = offset (sizes M) (i p c formed b) in
               let z : d .size ≡ c .size = sp2 .size ∙ rw ((freeAll-path (trimmed M above) s′) .2 ∙ lv) refl in
               let PP = pathUp (parent (sizes M) (i p c formed b)) new ((getD (nums M) (parent (sizes M) (i p c formed b)) 0, offset (sizes M) (i p c formed b)) ∷ []) in
-              let lp : length PP ≡ suc (length new) = PathLists.up-length (parent (sizes M) (i p c formed b)) new ((getD (nums M) (parent (sizes M) (i p c formed b)) 0, offset (sizes M) (i p c formed b)) ∷ []) ∙ omega arith in
+              let lp : length PP ≡ suc (length new) = length-pathUp (parent (sizes M) (i p c formed b)) new ((getD (nums M) (parent (sizes M) (i p c formed b)) 0, offset (sizes M) (i p c formed b)) ∷ []) ∙ omega arith in
               let g = gone-length in
               let lv6 = levels p c formed b in
               let y : d .size - top .gone ≡ length PP = omega (arith, size-is p c formed b) in

@@ -1,29 +1,19 @@
 -- PROOFS. Part of an array, and a path without its first levels
-use mathlib.Core.Path.{_≡_, refl, sym, ap, _∙_}
-use mathlib.Core.List.{List, [], _∷_}
-use Prim.Native.Nat.{ℕ, zero, suc, _+_, _-_, _≤_, _<_}
+use mathlib.Core.Path.{_≡_, sym, ap, _∙_}
+use mathlib.Core.List.{List}
+use Prim.Native.Nat.{ℕ, _+_, _-_, _≤_, _<_}
 use native.Mathlib.Numerals.{add-one}
 use native.Mathlib.Omega.{arith}
 use lib.ListN.{take, drop, getD, set}
 use lib.Seq.{getD-drop}
 use Rattle.forest.specs.Lists.{pad}
+use Rattle.forest.proofs.CountLaws.{front-more}
 use Rattle.forest.specs.declared.Cursor.{Cursor}
 use Rattle.remove.specs.Ends.{shifted}
 
-take-nil : (i : ℕ) → take {A = ℕ} i [] ≡ []
-take-nil zero = refl
-take-nil (suc i) = refl
-
-more-at : (n i : ℕ) (b : List ℕ) → i < n → set (pad n (take i b)) i (getD b i 0) ≡ pad n (take (suc i) b)
-more-at zero i b h = absurd (omega arith)
-more-at (suc n) zero [] h = refl
-more-at (suc n) zero (x ∷ b) h = refl
-more-at (suc n) (suc i) [] h = ap (0 ∷_) (rw (take-nil i) at (more-at n i [] (omega arith)))
-more-at (suc n) (suc i) (x ∷ b) h = ap (x ∷_) (more-at n i b (omega arith))
-
 pub part-more : (a out : List ℕ) (from i : ℕ) → i < 16 → out ≡ pad 16 (take i (drop from a)) → set out i (getD a (from + i) 0) ≡ pad 16 (take (i + 1) (drop from a))
 part-more a out from i h e =
-    ap (λ (o : List ℕ). set o i (getD a (from + i) 0)) e ∙ ap (set (pad 16 (take i (drop from a))) i) (sym (getD-drop from a i 0)) ∙ more-at 16 i (drop from a) h ∙ ap (λ (k : ℕ). pad 16 (take k (drop from a))) (sym (add-one i))
+    ap (λ (o : List ℕ). set o i (getD a (from + i) 0)) e ∙ ap (set (pad 16 (take i (drop from a))) i) (sym (getD-drop from a i 0)) ∙ front-more 16 (drop from a) i h ∙ ap (λ (k : ℕ). pad 16 (take k (drop from a))) (sym (add-one i))
 
 pub part-end : (a out : List ℕ) (from i n : ℕ) → i ≤ n → n ≤ i → out ≡ pad 16 (take i (drop from a)) → out ≡ pad 16 (take n (drop from a))
 part-end a out from i n h k e = let z : i ≡ n = omega arith in e ∙ ap (λ (k : ℕ). pad 16 (take k (drop from a))) z

@@ -13,7 +13,7 @@ use Rattle.forest.specs.Rows.{Row, size, nums, sizes, itemsAt}
 use Rattle.forest.specs.Trees.{numbers, trim, trimmed, fromTop}
 use Rattle.forest.specs.Pools.{innerWords, rootAbove}
 use Rattle.forest.specs.declared.Cursor.{Cursor}
-use Rattle.forest.proofs.ListLaws.{is, isnt, test, total-append}
+use Rattle.forest.proofs.ListLaws.{is, isnt, test}
 use Rattle.pool.specs.Stores.{Store, put, block, freedWords, noWords, Placed, Freeable}
 use Rattle.crit.specs.States.{State}
 use Rattle.crit.specs.Paths.{numAt, Stacked, HoldsUp}
@@ -30,6 +30,8 @@ use Rattle.heal.proofs.HealReady.{within-once}
 use Rattle.heal.proofs.FreeLaws.{spelt-freeable, spelt-freed, same-free, room, within-named}
 use Rattle.remove.proofs.HealTrim.{one-row, one-size, one-joined, only, shrunk, freeAll-free}
 use Rattle.forest.proofs.CallLaws.{length-push}
+use Rattle.forest.proofs.TowerLaws.{some-length}
+use Rattle.forest.proofs.WordLaws.{count-append}
 
 -- the rows without the topmost
 abbrev pub dropTop : List Row → List Row
@@ -60,33 +62,29 @@ summit st R S [] some s h =
       items = itemsAt S 0;
       words = ap st n ∙ HealMem.holds-at innerWords st S 0 (omega arith) (h .0);
       some = omega arith;
-      inside = rw (n, total-append (λ y. once (eqb (numAt S 0) y)) (nums S) []) (omega (arith, HealMem.numAt-counts S 0 (omega arith)));
+      inside = rw (n, count-append (numAt S 0) (nums S) []) (omega (arith, HealMem.numAt-counts S 0 (omega arith)));
       stacked = λ one. omega arith;
       child = λ one.
-          HealPath.inner-child (0, 0) 0 (itemsAt S 0) (omega arith) (omega arith) ∙ ap (λ (l : List Item). (getD l 0 (0, 0)) .1) (sym (one-joined S lS)) ∙
+          HealPath.inner-child (itemsAt S 0) 0 (omega arith) ∙ ap (λ (l : List Item). (getD l 0 (0, 0)) .1) (sym (one-joined S lS)) ∙
           HealStack.alike-val (0, 0) 0 (s .0) ∙ ap (λ (x : Item). x .1) (HealRows.line-at (0, 0) R 0 some);
-      counts = λ x. omega (arith, total-append (λ y. once (eqb x y)) (nums S) [], ap (count x) (one-row S lS), ap (λ (y : ℕ). once (eqb x y)) n);
+      counts = λ x. omega (arith, count-append x (nums S) [], ap (count x) (one-row S lS), ap (λ (y : ℕ). once (eqb x y)) n);
       up = tt;
       shorter = refl;
     }
 summit st R S (S2 ∷ Ss) some s h =
     let u : sum (sizes S) ≡ length R = HealStack.stacked-sum R S (s .0) in
-    let r = summit st S S2 Ss (some-row S (omega arith)) (s .2) (h .1) in
+    let r = summit st S S2 Ss (some-length S (omega arith)) (s .2) (h .1) in
     record {
       items = r .items;
       words = r .words;
       some = r .some;
-      inside = rw (total-append (λ y. once (eqb (rootAbove S (S2 ∷ Ss)) y)) (nums S) (numbers (S2 ∷ Ss))) (omega (arith, r .inside));
+      inside = rw (count-append (rootAbove S (S2 ∷ Ss)) (nums S) (numbers (S2 ∷ Ss))) (omega (arith, r .inside));
       stacked = λ one. (s .0, s .1, r .stacked one);
       child = λ one. r .child one;
-      counts = λ x. rw (total-append (λ y. once (eqb x y)) (nums S) (numbers (S2 ∷ Ss)), total-append (λ y. once (eqb x y)) (nums S) (numbers (dropTop (S2 ∷ Ss)))) (omega (arith, r .counts x));
+      counts = λ x. rw (count-append x (nums S) (numbers (S2 ∷ Ss)), count-append x (nums S) (numbers (dropTop (S2 ∷ Ss)))) (omega (arith, r .counts x));
       up = (h .0, r .up);
       shorter = ap suc (r .shorter);
     }
-  where
-    some-row : (S : Row) → 1 ≤ sum (sizes S) → 1 ≤ length S
-    some-row [] h = h
-    some-row (n ∷ S) h = omega arith
 
 module _ {ws : List ℕ} {t root levels : ℕ} (a : AskShrink ws t root levels) (h : 0 < levels) where
   peak : Summit (a .mem .s .st) (a .row) (a .rows)
@@ -97,7 +95,7 @@ module _ {ws : List ℕ} {t root levels : ℕ} (a : AskShrink ws t root levels) 
       from (S ∷ Ss) e s u = summit (a .mem .s .st) (a .row) S Ss (a .some) s u
 
   whole : (x : ℕ) → count x (nums (a .row) ++ numbers (a .rows)) ≡ count x (nums (a .row)) + count x (numbers (a .rows))
-  whole x = total-append (λ y. once (eqb x y)) (nums (a .row)) (numbers (a .rows))
+  whole x = count-append x (nums (a .row)) (numbers (a .rows))
 
   top-in : (1 ≤ root) × (root ≤ a .mem .count)
   top-in = rw (a .top) (within-named (a .mem .count) (nums (a .row) ++ numbers (a .rows)) (a .mem .s .free) (a .within) (rootAbove (a .row) (a .rows)) (omega (arith, whole (rootAbove (a .row) (a .rows)), peak .inside)))
@@ -110,7 +108,7 @@ module _ {ws : List ℕ} {t root levels : ℕ} (a : AskShrink ws t root levels) 
       room (a .mem .count) root (nums (a .row) ++ numbers (dropTop (a .rows))) (a .mem .s .free)
       (λ x. let c = peak .counts x in
       let e : once (eqb x root) ≡ once (eqb x (rootAbove (a .row) (a .rows))) = ap (λ (y : ℕ). once (eqb x y)) (a .top) in
-      omega (arith, a .within x, whole x, total-append (λ y. once (eqb x y)) (nums (a .row)) (numbers (dropTop (a .rows)))))
+      omega (arith, a .within x, whole x, count-append x (nums (a .row)) (numbers (dropTop (a .rows)))))
 
   pub top-freeable : Freeable ws t root
   top-freeable = spelt-freeable (a .spelt) root (top-in .0) (top-in .1) top-room
@@ -144,7 +142,7 @@ module _ {ws : List ℕ} {t root levels : ℕ} (a : AskShrink ws t root levels) 
         within = λ x.
             let c = peak .counts x in
             let e : once (eqb x root) ≡ once (eqb x (rootAbove (a .row) (a .rows))) = ap (λ (y : ℕ). once (eqb x y)) (a .top) in
-            omega (arith, a .within x, whole x, total-append (λ y. once (eqb x y)) (nums (a .row)) (numbers (dropTop (a .rows))));
+            omega (arith, a .within x, whole x, count-append x (nums (a .row)) (numbers (dropTop (a .rows))));
         up = HealMem.up-apart (a .mem .s .st) (put (a .mem .s .st) root noWords) (root ∷ []) (dropTop (a .rows))
             (HealMem.put-keeps (a .mem .s .st) root noWords (root ∷ []) (simp (eq-eqb root root refl) (omega arith)))
             (λ x. let c = peak .counts x in
@@ -240,12 +238,8 @@ trimmed-length R (S ∷ Ss) h s =
     let u : sum (sizes S) ≡ length R = HealStack.stacked-sum R S (s .0) in
     elim (test (ltb (length R) 2)) [
       | is e ↦ let z = ltb-true (length R) 2 e in simp e (omega (arith, single-length R (S ∷ Ss) (omega arith) s))
-      | isnt e ↦ simp e (omega (arith, trimmed-length S Ss (some-row S (omega arith)) (s .2)))
+      | isnt e ↦ simp e (omega (arith, trimmed-length S Ss (some-length S (omega arith)) (s .2)))
     ]
-  where
-    some-row : (S : Row) → 1 ≤ sum (sizes S) → 1 ≤ length S
-    some-row [] h = h
-    some-row (n ∷ S) h = omega arith
 
 pub shrinks-length : (R : Row) (Ss : List Row) (s : State) → 1 ≤ length R → Stacked R Ss → HealMem.Once (numbers Ss) → HoldsUp (s .st) Ss → shrinks (length Ss) s (rootAbove R Ss) + length (trim R Ss) ≡ length Ss
 shrinks-length R Ss s h st o hu =

@@ -12,16 +12,14 @@ use Rattle.forest.specs.Lists.{sum, once, count, parent, offset, pad}
 use Rattle.forest.specs.Pairs.{Item}
 use Rattle.forest.specs.Rows.{Row, Tree, nums, sizes, itemsAt, Good}
 use Rattle.forest.specs.Trees.{numbers, pairs}
-use Rattle.forest.specs.Pools.{Pool, WellFormed, encode, treeOf, root, nodeWords, used, leafWords, innerWords}
+use Rattle.forest.specs.Pools.{Pool, WellFormed, encode, treeOf, root, nodeWords, used, leafWords}
 use Rattle.forest.specs.Cursors.{on, leaves, Fits, pairAt, pathOf, pathUp, cursorAt}
 use Rattle.forest.specs.declared.Cursor.{Cursor}
 use Rattle.forest.proofs.RowLaws.{sum-sizes, length-items}
-use Rattle.forest.proofs.CountLaws.{length-pad, node-length}
+use Rattle.forest.proofs.CountLaws.{length-pad, getD-pad, node-length}
 use Rattle.forest.proofs.PoolLaws.{good-at, used-set}
-use Rattle.forest.proofs.WordLaws.{leaf-words, inner-words, rowAt, count-tree, used-once}
+use Rattle.forest.proofs.WordLaws.{count-tree, used-once}
 use Rattle.forest.proofs.Six.{six-levels}
-use Rattle.node.proofs.Pads.{pad-at}
-use Rattle.pool.specs.Stores.{Store}
 use Rattle.pool.proofs.Spell.{encode-spell}
 use Rattle.crit.specs.States.{State}
 use Rattle.crit.specs.Paths.{Holds, HoldsUp, Path}
@@ -34,15 +32,8 @@ use Rattle.remove.proofs.HealDone.{tower-stacked}
 use Rattle.remove.proofs.HealRemove.{at-place}
 use Rattle.remove.proofs.PathLists
 use Rattle.forest.proofs.CursorLaws.{nth-lt}
-
--- a store with the words of each node holds the row, and the rows
-holds-from : (enc : List Item → List ℕ) (st : Store) (R : Row) → ((j : ℕ) → j < length R → st (getD (nums R) j 0) ≡ enc (itemsAt R j)) → Holds enc st R
-holds-from enc st [] h = tt
-holds-from enc st (n ∷ R) h = (h 0 (omega arith), holds-from enc st R (λ j b. h (suc j) (omega arith)))
-
-holds-up-from : (st : Store) (Rs : List Row) → ((k j : ℕ) → j < length (rowAt Rs k) → st (getD (nums (rowAt Rs k)) j 0) ≡ innerWords (itemsAt (rowAt Rs k) j)) → HoldsUp st Rs
-holds-up-from st [] h = tt
-holds-up-from st (R ∷ Rs) h = (holds-from innerWords st R (h 0), holds-up-from st Rs (λ k. h (suc k)))
+use Rattle.forest.proofs.StandLaws.{length-pathUp}
+use Rattle.pool.proofs.HeldTrees.{pool-holds}
 
 -- the leaves and the rows of the cursor's tree
 pub record Begun (p : Pool) (c : Cursor) : Type 0 where
@@ -84,7 +75,7 @@ module _ (p : Pool) (c : Cursor) (formed : WellFormed 3 p) (b : Begun p c) where
   P = pathUp (b .j) (b .Rs) ((getD (nums (b .L)) (b .j) 0, b .e) ∷ [])
 
   pub size-is : c .size ≡ suc (length (b .Rs))
-  size-is = ap (λ (d : Cursor). d .size) (sym (b .cur)) ∙ PathLists.up-length (b .j) (b .Rs) ((getD (nums (b .L)) (b .j) 0, b .e) ∷ []) ∙ omega arith
+  size-is = ap (λ (d : Cursor). d .size) (sym (b .cur)) ∙ length-pathUp (b .j) (b .Rs) ((getD (nums (b .L)) (b .j) 0, b .e) ∷ []) ∙ omega arith
 
   pub nodes-are : c .nodes ≡ pad 16 (map (λ (q : ℕ × ℕ). q .0) P)
   nodes-are = ap (λ (d : Cursor). d .nodes) (sym (b .cur))
@@ -114,18 +105,15 @@ module _ (p : Pool) (c : Cursor) (formed : WellFormed 3 p) (b : Begun p c) where
 
   pub path0 : Path (b .L) (b .j) (b .Rs) (s0 .ns) (s0 .ps)
   path0 = path-deeper (b .L) (b .j) (b .Rs) (λ l. getD (map (λ (q : ℕ × ℕ). q .0) P) l 0) (λ l. getD (map (λ (q : ℕ × ℕ). q .1) P) l 0) (s0 .ns) (s0 .ps)
-      (λ l h. ap (λ (xs : List ℕ). getD xs l 0) nodes-are ∙ pad-at 16 l (map (λ (q : ℕ × ℕ). q .0) P) (omega (arith, levels)))
-      (λ l h. ap (λ (xs : List ℕ). getD xs l 0) places-are ∙ pad-at 16 l (map (λ (q : ℕ × ℕ). q .1) P) (omega (arith, levels)))
+      (λ l h. ap (λ (xs : List ℕ). getD xs l 0) nodes-are ∙ getD-pad 16 (map (λ (q : ℕ × ℕ). q .0) P) l (omega (arith, levels)))
+      (λ l h. ap (λ (xs : List ℕ). getD xs l 0) places-are ∙ getD-pad 16 (map (λ (q : ℕ × ℕ). q .1) P) l (omega (arith, levels)))
       (PathLists.up-path (b .L) (b .j) (b .e) (b .Rs) [])
 
   pub place0 : s0 .ps (length (b .Rs)) ≡ b .e
-  place0 = ap (λ (xs : List ℕ). getD xs (length (b .Rs)) 0) places-are ∙ pad-at 16 (length (b .Rs)) (map (λ (q : ℕ × ℕ). q .1) P) (omega (arith, levels)) ∙ PathLists.up-place (b .L) (b .j) (b .e) (b .Rs)
+  place0 = ap (λ (xs : List ℕ). getD xs (length (b .Rs)) 0) places-are ∙ getD-pad 16 (map (λ (q : ℕ × ℕ). q .1) P) (length (b .Rs)) (omega (arith, levels)) ∙ PathLists.up-place (b .L) (b .j) (b .e) (b .Rs)
 
   pub holds0 : Holds leafWords (s0 .st) (b .L) × HoldsUp (s0 .st) (b .Rs)
-  holds0 = (
-    holds-from leafWords (nodeWords (p .trees)) (b .L) (λ j h. leaf-words 3 p formed (c .tree) (b .L) (b .Rs) j (b .is) h),
-    holds-up-from (nodeWords (p .trees)) (b .Rs) (λ k j h. inner-words 3 p formed (c .tree) (b .L) (b .Rs) k j (b .is) h),
-  )
+  holds0 = pool-holds 3 p formed (c .tree) (b .L ∷ b .Rs) (b .is)
 
   counts : (x : ℕ) → count x (nums (b .L) ++ numbers (b .Rs)) ≤ count x (used (p .trees))
   counts x = let z : count x (numbers (treeOf p (c .tree))) ≡ count x (nums (b .L) ++ numbers (b .Rs)) = ap (λ (T : Tree). count x (numbers T)) (b .is) in omega (arith, count-tree x (p .trees) (c .tree))

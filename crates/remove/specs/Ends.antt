@@ -21,11 +21,12 @@ use Rattle.heal.specs.Steps.{freeNode}
 use Rattle.heal.specs.Wounds.{Within}
 use Rattle.remove.specs.declared.Top.{Top}
 
--- roots with one child go, from node n, at most f of them
+-- the state, and its root
 pub record Shrunk : Type 0 where
   pub state : State
   pub root : ℕ
 
+-- roots with one child go, from node n, at most f of them
 abbrev pub shrink : ℕ → State → ℕ → Shrunk
 shrink zero s n = record { state = s; root = n }
 shrink (suc f) s n = cond (eqb (getD (s .st n) 0 0) innerTag) (shrink f (freeNode s n) (getD (s .st n) 8 0)) (record { state = s; root = n })
@@ -62,6 +63,7 @@ pub record Stage (ws vs : List ℕ) (t root levels n gone : ℕ) (c : Cursor) (m
   pub same : shrink levels (m .s) root ≡ shrink (levels - gone) s n
   pub times : shrinks levels (m .s) root ≡ gone + shrinks (levels - gone) s n
 
+-- and what shrink_root may still ask there
 pub record Going (ws vs : List ℕ) (t root levels n gone : ℕ) : Type 0 where
   pub few : gone ≤ levels
   pub ask : AskShrink vs t n (levels - gone)

@@ -1,13 +1,14 @@
 // Taking a pair out of a tree, as the crate's path.rs has it: the only pair or one of more, roots with one child, the path that is left.
 ghost use mathlib.Core.Path.{_≡_};
-ghost use Prim.Native.Nat.{_+_, _≤_};
+ghost use Prim.Native.Nat.{_+_, _≤_, _<_};
 ghost use Rattle.remove.specs.Ends.{AskShrink, Shrinks, shifted, AskLast, AskRemove, Lone, Removes};
+ghost use Rattle.remove.specs.Keys.{closed, LeafPair, lessWords, onlyLeaf, AskKey, RemovesKey};
 ghost use Rattle.forest.specs.Lists.{pad};
-ghost use lib.ListN.{take, drop};
+ghost use lib.ListN.{length, take, drop};
 use forest::Cursor;
 
 // The root once those with one child are gone, and how many went.
-pub struct Top {
+struct Top {
     pub root: u32,
     pub gone: usize,
 }
@@ -113,4 +114,53 @@ pub fn remove(ws: &mut [u32], t: usize, c: Cursor) -> Cursor
     let top = shrink_root(ws, t, root, level);
     pool::set_root(ws, c.tree, top.root);
     shift_path(d, top.gone)
+}
+
+// The word at `at` goes: those behind it, before `end`, move up, and a 0 comes last.
+fn close_up(ws: &mut [u32], at: usize, end: usize)
+    requires { ⌜ (at < end) × (end ≤ length (now ws)) ⌝ }
+    ensures { λ _. ⌜ now (ws .exit) ≡ closed (now (ws .entry)) at end ⌝ }
+{
+    forest::slice_shift(&mut ws[at..end], 1);
+    ws[end - 1] = 0;
+}
+
+// Takes the pair at place `at` out of leaf n, in place.
+fn take_out(ws: &mut [u32], t: usize, n: u32, at: usize)
+    requires { ⌜ LeafPair (now ws) t n at ⌝ }
+    ensures { λ _. ⌜ now (ws .exit) ≡ lessWords (now (ws .entry)) t n at ⌝ }
+{
+    let b = t + 16 * (n as usize) - 14;
+    ws[b] = ws[b] - 1;
+    close_up(ws, b + 1 + at, b + 8);
+    close_up(ws, b + 8 + at, b + 16);
+}
+
+// Does leaf n alone change where the pair at place `at` goes?
+fn only_leaf(ws: &[u32], t: usize, tree: u32, n: u32, at: usize) -> bool
+    requires { ⌜ LeafPair (now ws) t n at ⌝ }
+    requires { ⌜ tree + 1 < length (now ws) ⌝ }
+    ensures { λ r. ⌜ r ≡ onlyLeaf (now (ws .entry)) t tree n at ⌝ }
+{
+    let b = t + 16 * (n as usize) - 14;
+    if pool::root(ws, tree) == n {
+        return 34 <= ws[b];
+    }
+    if at == 0 {
+        return false;
+    }
+    37 <= ws[b]
+}
+
+// Removes the pair of a key, at place `at` of leaf n; where that leaf alone changes no path is made.
+pub fn remove_key(ws: &mut [u32], t: usize, tree: u32, key: u32, n: u32, at: usize)
+    requires { ⌜ AskKey (now ws) t tree key n at ⌝ }
+    ensures { λ _. ⌜ RemovesKey (now (ws .entry)) (now (ws .exit)) tree key ⌝ }
+{
+    if only_leaf(ws, t, tree, n, at) {
+        take_out(ws, t, n, at);
+        return;
+    }
+    let c = path::find(ws, t, tree, key);
+    remove(ws, t, c);
 }

@@ -1,12 +1,12 @@
 -- PROOFS. A number as text: what is written from the right is the number's digits, they read back as the number, and no zero is in front
-use mathlib.Core.Path.{_≡_, refl, sym, ap, _∙_}
+use mathlib.Core.Path.{_≡_, refl, ap, _∙_}
 use mathlib.Core.List.{List, [], _∷_, _++_, append-nil}
 use Prim.Native.Nat.{ℕ, zero, suc, _+_, _-_, _*_, _/_, _%_, _^_, _≤_, _<_}
 use native.Mathlib.Nat.{pow-suc, div-lt-iff-lt-mul}
 use native.Mathlib.Omega.{arith}
 use lib.Dec.{ltb}
-use lib.ListN.{length, drop, set, getD, length-set, drop-of-length-le}
-use lib.Seq.{drop-cons, drop-set-lt, getD-set-same}
+use lib.ListN.{length, take, drop, set, getD, length-set, drop-of-length-le}
+use lib.Seq.{drop-cons, drop-set-lt, drop-at, getD-set-same, length-take-le, set-split, take-all, take-append-le, take-set-le, take-take}
 use borrow.Author.Tests.{lt-ltb, le-ltb, ltb-false}
 use Rattle.forest.specs.Lists.{once}
 use Rattle.forest.specs.declared.Answer.{Answer}
@@ -49,14 +49,20 @@ pub spell-decimal : (n : ℕ) (text : List ℕ) → spell 10 n text ≡ decimal 
 unfolding decimal
 spell-decimal n text = spell-append 10 n [] text
 
--- the last store of `digits`, and the others
-pub digits-last : (l : List ℕ) (at most n : ℕ) → 1 ≤ most → most ≤ at → at ≤ length l → n < 10 → drop (at - 1) (set l (at - 1) (48 + n)) ≡ spell most n (drop at l)
-digits-last l at most n m a h t = byte-before l (at - 1) at (48 + n) (omega arith) (omega arith) ∙ sym (spell-last most n (drop at l) m t)
+-- the last store of `digits`, and the others: what stands before them stays
+pub digits-last : (l : List ℕ) (at most n : ℕ) → 1 ≤ most → most ≤ at → at ≤ length l → n < 10 → set l (at - 1) (48 + n) ≡ take (at - 1) l ++ spell most n (drop at l)
+digits-last l at most n m a h t =
+    let q : suc (at - 1) ≡ at = omega arith in
+    set-split l (at - 1) (48 + n) (omega arith) ∙ rw (q, spell-last most n (drop at l) m t)
 
-pub digits-more : (l v : List ℕ) (at most n r : ℕ) → 1 ≤ most → most ≤ at → at ≤ length l → 10 ≤ n →
-    drop r v ≡ spell (most - 1) (n / 10) (drop (at - 1) (set l (at - 1) (48 + n % 10))) → drop r v ≡ spell most n (drop at l)
-digits-more l v at most n r m a h t e =
-    e ∙ ap (spell (most - 1) (n / 10)) (byte-before l (at - 1) at (48 + n % 10) (omega arith) (omega arith)) ∙ sym (spell-more most n (drop at l) m t)
+pub digits-more : (l v : List ℕ) (at most n r : ℕ) → 1 ≤ most → most ≤ at → at ≤ length l → 10 ≤ n → r ≤ at - 1 →
+    v ≡ take r (set l (at - 1) (48 + n % 10)) ++ spell (most - 1) (n / 10) (drop (at - 1) (set l (at - 1) (48 + n % 10))) → v ≡ take r l ++ spell most n (drop at l)
+digits-more l v at most n r m a h t b e =
+    e ∙ rw (
+      take-set-le r l (at - 1) (48 + n % 10) b,
+      byte-before l (at - 1) at (48 + n % 10) (omega arith) (omega arith),
+      spell-more most n (drop at l) m t,
+    )
 
 -- the line, written from the right
 pub line-text : (a : Answer) → spell 10 (a .number) (32 ∷ (48 + once (a .found)) ∷ 32 ∷ spell 10 (a .value) (10 ∷ [])) ≡ line a
@@ -64,25 +70,31 @@ unfolding line
 line-text a = rw (spell-decimal (a .value) (10 ∷ [])) (spell-decimal (a .number) _)
 
 -- v has the value's digits from place i on, w the whole line from place r on
-pub line-written : (a : Answer) (l v w : List ℕ) (i r f : ℕ) → length l ≡ 24 → length v ≡ 24 → 3 ≤ i → i ≤ 23 → f ≡ 48 + once (a .found) →
-    drop i v ≡ spell 10 (a .value) (drop 23 (set l 23 10)) →
-    drop r w ≡ spell 10 (a .number) (drop (i - 3) (set (set (set v (i - 1) 32) (i - 2) f) (i - 3) 32)) → drop r w ≡ line a
-line-written a l v w i r f h k lo hi q e g =
+pub line-written : (a : Answer) (l v w : List ℕ) (i r f : ℕ) → length l ≡ 24 → length v ≡ 24 → 3 ≤ i → i ≤ 23 → r ≤ i - 3 → f ≡ 48 + once (a .found) →
+    v ≡ take i (set l 23 10) ++ spell 10 (a .value) (drop 23 (set l 23 10)) →
+    (let u = set (set (set v (i - 1) 32) (i - 2) f) (i - 3) 32 in w ≡ take r u ++ spell 10 (a .number) (drop (i - 3) u)) → w ≡ take r l ++ line a
+line-written a l v w i r f h k lo hi b q e g =
     let nothing-after : drop 24 l ≡ [] = drop-of-length-le l {i = 24} (omega arith) in
     let end : drop 23 (set l 23 10) ≡ 10 ∷ [] = byte-before l 23 24 10 refl (omega arith) ∙ ap (λ (t : List ℕ). 10 ∷ t) nothing-after in
+    let front : length (take i (set l 23 10)) ≡ i = length-take-le i (set l 23 10) (rw length-set (omega arith)) in
+    let value : drop i v ≡ spell 10 (a .value) (10 ∷ []) = rw e (drop-at (take i (set l 23 10)) _ i front ∙ ap (spell 10 (a .value)) end) in
     let v1 = set v (i - 1) 32 in
     let v2 = set v1 (i - 2) f in
     let one : drop (i - 1) v1 ≡ 32 ∷ drop i v = byte-before v (i - 1) i 32 (omega arith) (omega arith) in
     let two : drop (i - 2) v2 ≡ f ∷ drop (i - 1) v1 = byte-before v1 (i - 2) (i - 1) f (omega arith) (rw length-set (omega arith)) in
     let three : drop (i - 3) (set v2 (i - 3) 32) ≡ 32 ∷ drop (i - 2) v2 = byte-before v2 (i - 3) (i - 2) 32 (omega arith) (simp length-set (omega arith)) in
-    g ∙ ap (spell 10 (a .number)) (three ∙ rw (two, one, e, end, q)) ∙ line-text a
+    let text : spell 10 (a .number) (drop (i - 3) (set v2 (i - 3) 32)) ≡ line a = ap (spell 10 (a .number)) (three ∙ rw (two, one, value, q)) ∙ line-text a in
+    let stays : take r (set v2 (i - 3) 32) ≡ take r l =
+    take-set-le r v2 (i - 3) 32 b ∙ take-set-le r v1 (i - 2) f (omega arith) ∙ take-set-le r v (i - 1) 32 (omega arith) ∙
+    rw e (take-append-le r (take i (set l 23 10)) _ (omega arith) ∙ take-take r i (set l 23 10) (omega arith) ∙ take-set-le r l 23 10 (omega arith)) in
+    g ∙ rw (stays, text)
 
 -- the text of what is said
-pub nothing-said : (s : Said) (l : List ℕ) → s ≡ Nothing → length l ≡ 24 → drop 24 l ≡ lines (spoken s)
-nothing-said s l q h = rw q (drop-of-length-le l {i = 24} (omega arith))
+pub nothing-said : (s : Said) (l : List ℕ) → s ≡ Nothing → length l ≡ 24 → l ≡ take 24 l ++ lines (spoken s)
+nothing-said s l q h = rw (q, take-all 24 l (omega arith), append-nil)
 
-pub line-said : (s : Said) (a : Answer) (t : List ℕ) → s ≡ Line a → t ≡ line a → t ≡ lines (spoken s)
-line-said s a t q e = rw (q, append-nil) e
+pub line-said : (s : Said) (a : Answer) (l t : List ℕ) (r : ℕ) → s ≡ Line a → t ≡ take r l ++ line a → t ≡ take r l ++ lines (spoken s)
+line-said s a l t r q e = rw (q, append-nil) e
 
 -- The text of a number is right
 

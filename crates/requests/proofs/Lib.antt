@@ -2,4 +2,6 @@ pub mod Decimals
 pub mod Judging
 pub mod Falling
 pub mod Whole
+pub mod Settled
+pub mod AnyRun
 pub mod Trials

@@ -1,12 +1,17 @@
--- DEFINITIONS AND PROOF. Deliveries and the text they are answered with, computed: document 01's five lines, and each way to stop
-use mathlib.Core.Path.{_≡_, refl}
+-- DEFINITIONS AND PROOF. Deliveries and the text they are answered with, computed: document 01's five lines, and each way to stop; a run that writes the five lines
+use mathlib.Core.Path.{_≡_, refl, ap}
 use mathlib.Core.List.{List, [], _∷_, _++_}
 use mathlib.Core.Bool.{true}
 use Prim.Native.Nat.{ℕ, _/_, _%_}
-use lib.ListN.{take}
+use native.Mathlib.Omega.{arith}
+use lib.ListN.{take, getD, replicate, length-replicate}
 use Rattle.forest.proofs.Trials.{Trial, AllHold, agree, holds, steps}
 use Rattle.requests.specs.Text.{decimal, line}
 use Rattle.requests.specs.Replay.{wordAt, asked, counted, pooled, replayed, replay}
+use Rattle.requests.specs.declared.Stage.the-variants.{Kind}
+use Rattle.requests.specs.Turns.{room}
+use Rattle.requests.specs.Runs.{Run}
+use Rattle.requests.proofs.AnyRun.{any-run}
 
 -- the bytes of words below 65,536
 abbrev bytes : List ℕ → List ℕ
@@ -26,15 +31,25 @@ unfolding steps decimal line wordAt asked counted pooled replayed
 reading = tt
 
 -- put 9/100 twice, get 9, remove 9, get 9, with T = 1 and N = 2
+abbrev pub five-requests : List ℕ
+five-requests = bytes (2 ∷ 1 ∷ 2 ∷ 5 ∷ 1 ∷ 0 ∷ 9 ∷ 100 ∷ 1 ∷ 0 ∷ 9 ∷ 100 ∷ 3 ∷ 0 ∷ 9 ∷ 0 ∷ 2 ∷ 0 ∷ 9 ∷ 0 ∷ 3 ∷ 0 ∷ 9 ∷ 0 ∷ [])
+
+abbrev pub five-lines : List ℕ
+five-lines = plain 0 ++ (hundred ++ (hundred ++ (hundred ++ plain 0)))
+
 pub five : Trial
-five = record {
-  seen = replay (bytes (2 ∷ 1 ∷ 2 ∷ 5 ∷ 1 ∷ 0 ∷ 9 ∷ 100 ∷ 1 ∷ 0 ∷ 9 ∷ 100 ∷ 3 ∷ 0 ∷ 9 ∷ 0 ∷ 2 ∷ 0 ∷ 9 ∷ 0 ∷ 3 ∷ 0 ∷ 9 ∷ 0 ∷ [])) ∷ [];
-  said = (plain 0 ++ (hundred ++ (hundred ++ (hundred ++ plain 0)))) ∷ [];
-}
+five = record { seen = replay five-requests ∷ []; said = five-lines ∷ [] }
 
 five-agrees : agree five ≡ true
 unfolding reading five
 five-agrees = refl
+
+-- a run of them, in room for the largest pool
+pub five-run : Run Kind (replicate room 0) five-requests five-lines
+unfolding five
+five-run =
+    let e : replay five-requests ≡ five-lines = ap (λ (x : List (List ℕ)). getD x 0 []) (holds five five-agrees) in
+    rw (← e) (any-run (replicate room 0) five-requests (rw length-replicate (omega arith)))
 
 -- an unknown request, and the next is answered; tree 1 of one; the rest is not read
 pub unknown : Trial

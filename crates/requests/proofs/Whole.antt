@@ -1,7 +1,7 @@
 -- PROOFS. The whole delivery: a run from the first word on writes the replay of its bytes, and what stands after the last request makes no difference
 use mathlib.Core.Path.{_≡_, refl, sym, ap, _∙_}
 use mathlib.Core.List.{List, [], _∷_, _++_, append-assoc}
-use mathlib.Core.Bool.{true, _&&_}
+use mathlib.Core.Bool.{true}
 use mathlib.Core.Option.{Option, none, some}
 use Prim.Native.Nat.{ℕ, zero, suc, _+_, _*_, _≤_, _<_, min}
 use native.Mathlib.Omega.{arith}
@@ -16,6 +16,8 @@ use Rattle.forest.specs.Pools.{Pool, WellFormed, encode, Call, fresh, formatted
 use Rattle.forest.proofs.ListLaws.{test, is, isnt}
 use Rattle.forest.proofs.CountLaws.{fresh-formed}
 use Rattle.forest.proofs.PoolLaws.{call-formed}
+use Rattle.pool.proofs.Fresh.{refused-five}
+use Rattle.history.proofs.Laws.{format-in}
 use Rattle.requests.specs.declared.Stage.{Stage}
 use Rattle.requests.specs.declared.Stage.the-variants.{Kind, Sizes, Count, Request, Stopped}
 use Rattle.requests.specs.declared.Said.the-variants.{Line}
@@ -98,26 +100,6 @@ module _ (T N : ℕ) where
     ]
   ]
 
-  format-in : formatted T N (sized T N) ≡ 0 → (1 ≤ T) × (T ≤ 32) × (N ≤ 512)
-  unfolding formatted
-  format-in q = elim (test (leb 1 T)) [
-    | isnt e ↦ absurd (let z = simp e at q in omega arith)
-    | is e ↦ elim (test (leb T 32)) [
-      | isnt f ↦ absurd (let z = simp (e, f) at q in omega arith)
-      | is f ↦ elim (test (leb N 512)) [
-        | isnt g ↦ absurd (let z = simp (e, f, g) at q in omega arith)
-        | is g ↦ (leb-true 1 T e, leb-true T 32 f, leb-true N 512 g)
-      ]
-    ]
-  ]
-
-  format-out : (n : ℕ) → (formatted T N n ≡ 0 → ⊥) → formatted T N n ≡ 5
-  unfolding formatted
-  format-out n q = elim (test (leb 1 T && (leb T 32 && (leb N 512 && eqb n (T + 17 * N + 3))))) [
-    | is e ↦ absurd (q (simp e))
-    | isnt e ↦ simp e
-  ]
-
 -- T and N
 module _ (b : List ℕ) (p : Pool) (ws vs : List ℕ) (T N : ℕ) (l : room ≤ length ws) (h : 8 ≤ length b) (t : T ≡ wordAt b 0) (n : N ≡ wordAt b 4)
     (w : take (sized T N) vs ≡ formatWords T N (take (sized T N) ws)) where
@@ -127,7 +109,7 @@ module _ (b : List ℕ) (p : Pool) (ws vs : List ℕ) (T N : ℕ) (l : room ≤ 
   sizes-done : formatted T N (sized T N) ≡ 0 → Goes Sizes b p vs (goes (Count (sized T N)))
   unfolding pooled formatWords
   sizes-done e =
-      let fits = format-in T N e in
+      let fits = format-in T N (sized T N) e in
       let o : eqb (formatted T N (sized T N)) 0 ≡ true = eq-eqb _ 0 e in
       record {
         pool = fresh T N;
@@ -148,8 +130,8 @@ module _ (b : List ℕ) (p : Pool) (ws vs : List ℕ) (T N : ℕ) (l : room ≤ 
   sizes-goes = rw taken (elim (test (eqb (formatted T N (sized T N)) 0)) [
     | is e ↦ simp e (sizes-done (eqb-true _ 0 e))
     | isnt e ↦
-        let five = format-out T N (sized T N) (eqb-false _ 0 e) in
-        simp (e, five) (sizes-refused (eqb-false _ 0 e))
+        let five = refused-five T N (sized T N) e in
+        simp five (sizes-refused (eqb-false _ 0 e))
   ])
 
 -- the count

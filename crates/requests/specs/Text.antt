@@ -19,6 +19,7 @@ decimal n = spell 10 n []
 unfoldable pub line : Answer → List ℕ
 line a = decimal (a .number) ++ (32 ∷ (48 + once (a .found)) ∷ 32 ∷ (decimal (a .value) ++ (10 ∷ [])))
 
+-- the text of some answers, a line each
 abbrev pub lines : List Answer → List ℕ
 lines [] = []
 lines (a ∷ more) = line a ++ lines more

@@ -6,7 +6,7 @@ use mathlib.Core.Option.{Option, none, some}
 use Prim.Native.Nat.{ℕ, zero, suc, _+_, _≤_, _<_}
 use lib.ListN.{length, take, drop}
 use lib.Dec.{leb, eqb}
-use Rattle.forest.specs.Sizes.{leafLeast}
+use Rattle.forest.specs.Sizes.{mostTrees, mostNodes, leafLeast}
 use Rattle.forest.specs.declared.Answer.{Answer}
 use Rattle.forest.specs.Answers.{refusal}
 use Rattle.forest.specs.Pools.{Call, formatWords, formatAnswer}
@@ -22,9 +22,9 @@ use Rattle.requests.specs.Replay.{mostRequests, wordAt, sized, request}
 abbrev pub sizedBy : List ℕ → ℕ
 sizedBy b = sized (wordAt b 0) (wordAt b 4)
 
--- the words of the largest pool, 32 trees and 512 nodes
+-- the words of the largest pool
 abbrev pub room : ℕ
-room = 8739
+room = sized mostTrees mostNodes
 
 -- the bytes that a stage reads
 abbrev pub wantsOf : Stage → ℕ

@@ -1,7 +1,8 @@
 // Document 01's replay: a delivery of little-endian words, read and judged stage by stage, a line of text for each request.
 ghost use mathlib.Core.Path.{_≡_};
+ghost use mathlib.Core.List.{_++_};
 ghost use Prim.Native.Nat.{_+_, _-_, _*_, _^_, _≤_, _<_, min};
-ghost use lib.ListN.{length, drop};
+ghost use lib.ListN.{length, take, drop};
 ghost use Rattle.forest.specs.Lists.{once};
 ghost use Rattle.forest.specs.Answers.{answerOf};
 ghost use Rattle.forest.specs.Answers.{refusal as refusal-of};
@@ -10,10 +11,12 @@ ghost use Rattle.requests.specs.Replay.{wordAt, asked};
 ghost use Rattle.requests.specs.Turns.{wantsOf, spoken, goes, stops, asking, afterKind, afterFormat, afterCount};
 ghost use Rattle.requests.specs.Turns.{Heeds, Sized, Requested, Turned, rank};
 use forest::Answer;
+use forest::MAX_NODES;
+use forest::MAX_TREES;
 use forest::Reply;
 
-// The words of the largest pool: 32 trees and 512 nodes.
-pub const ROOM: usize = 8739;
+// The words of the largest pool.
+pub const ROOM: usize = MAX_TREES as usize + 17 * MAX_NODES as usize + 3;
 // The first word of a delivery.
 const KIND: u32 = 2;
 // Requests of a delivery at most.
@@ -184,7 +187,7 @@ fn after_count(words: usize, b: &[u8]) -> Turn
 }
 
 // A request of four words, on any words: 1 put, 2 remove, 3 get; 6 where it is unknown.
-pub fn answer_request(ws: &mut [u32], kind: u32, tree: u32, key: u32, value: u32) -> Answer
+fn answer_request(ws: &mut [u32], kind: u32, tree: u32, key: u32, value: u32) -> Answer
     ensures { λ r. ⌜ Heeds (asked kind tree key value) (now (ws .entry)) (now (ws .exit)) r ⌝ }
 {
     if kind == PUT {
@@ -233,10 +236,10 @@ pub fn step(space: &mut [u32], stage: Stage, b: &[u8]) -> Turn
     }
 }
 
-// The decimal digits of n, at most `most` of them, before place `at`: where they start.
+// The decimal digits of n, at most `most` of them, before place `at`: where they start. What stands before them stays.
 fn digits(out: &mut [u8], at: usize, most: usize, n: u32) -> usize
     requires { ⌜ (1 ≤ most) × (most ≤ at) × (at ≤ length (now out)) × (n < 10 ^ most) ⌝ }
-    ensures text { λ r. ⌜ drop r (now (out .exit)) ≡ spell most n (drop at (now (out .entry))) ⌝ }
+    ensures text { λ r. ⌜ now (out .exit) ≡ take r (now (out .entry)) ++ spell most n (drop at (now (out .entry))) ⌝ }
     ensures start { λ r. ⌜ (r ≤ at) × (at ≤ r + most) ⌝ }
 {
     if n < 10 {
@@ -257,10 +260,10 @@ fn flag(found: bool) -> u8
     b'0'
 }
 
-// The line of an answer, at the end of `out`: where it starts.
+// The line of an answer, at the end of `out`: where it starts. The bytes before it stay.
 fn write_line(out: &mut [u8], answer: Answer) -> usize
     requires { ⌜ length (now out) ≡ 24 ⌝ }
-    ensures text { λ r. ⌜ drop r (now (out .exit)) ≡ line answer ⌝ }
+    ensures text { λ r. ⌜ now (out .exit) ≡ take r (now (out .entry)) ++ line answer ⌝ }
     ensures start { λ r. ⌜ r ≤ 24 ⌝ }
 {
     out[23] = b'\n';
@@ -271,10 +274,10 @@ fn write_line(out: &mut [u8], answer: Answer) -> usize
     digits(out, value - 3, 10, answer.number)
 }
 
-// The text of what is said, at the end of `out`: where it starts.
+// The text of what is said, at the end of `out`: where it starts. The bytes before it stay.
 fn write_text(out: &mut [u8], said: Said) -> usize
     requires { ⌜ length (now out) ≡ 24 ⌝ }
-    ensures text { λ r. ⌜ drop r (now (out .exit)) ≡ lines (spoken said) ⌝ }
+    ensures text { λ r. ⌜ now (out .exit) ≡ take r (now (out .entry)) ++ lines (spoken said) ⌝ }
     ensures start { λ r. ⌜ r ≤ 24 ⌝ }
 {
     match said {
@@ -285,7 +288,7 @@ fn write_text(out: &mut [u8], said: Said) -> usize
 
 // The same, in a buffer that is as long as the longest line.
 pub fn write_said(out: &mut [u8; 24], said: Said) -> usize
-    ensures text { λ r. ⌜ drop r (now (out .exit)) ≡ lines (spoken said) ⌝ }
+    ensures text { λ r. ⌜ now (out .exit) ≡ take r (now (out .entry)) ++ lines (spoken said) ⌝ }
     ensures start { λ r. ⌜ (r ≤ 24) × (length (now (out .exit)) ≡ 24) ⌝ }
 {
     write_text(out, said)

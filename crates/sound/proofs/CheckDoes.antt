@@ -6,8 +6,9 @@ use Prim.Native.Nat.{ℕ, zero, suc, _+_, _-_, _*_, _≤_, _<_}
 use native.Mathlib.Omega.{arith}
 use lib.ListN.{length, getD, length-append, length-map, length-reverse}
 use lib.Dec.{leb, eqb}
-use borrow.Author.Tests.{eqb-true, eqb-false, eq-eqb, ne-eqb, le-leb, lt-leb, leb-true, leb-false}
-use Rattle.forest.proofs.CountLaws.{encode-length, nodes-length}
+use borrow.Author.Tests.{eq-eqb, ne-eqb, le-leb, lt-leb, leb-true, leb-false}
+use Rattle.forest.proofs.CountLaws.{small, in-range, few-numbers, encode-length, nodes-length}
+use Rattle.forest.proofs.WordLaws.{trees-miss, count-append}
 use Rattle.forest.specs.Lists.{once, total, count, pad}
 use Rattle.forest.specs.Pairs.{Item, Rising}
 use Rattle.forest.specs.Rows.{Tree, Good, line}
@@ -16,15 +17,15 @@ use Rattle.forest.specs.Pools.{Pool, WellFormed, AllGood, used, root, leafWords
 use Rattle.forest.proofs.ListLaws.{is, isnt, test, total-append}
 use Rattle.walk.specs.declared.Walked.{Walked}
 use Rattle.walk.specs.Marks.{mark, markAll}
-use Rattle.walk.proofs.MarkLaws.{Small, marks-count, fresh-once, clean, has-clean}
+use Rattle.walk.proofs.MarkLaws.{marks-count, fresh-once, clean, has-clean}
 use Rattle.walk.proofs.Subtree.{Sub, crown, flat, rowsOf, pairsOf, numsOf, Flagged, Each, Filled, Held, HeldTree, Fresh}
-use Rattle.walk.proofs.Towers.{tops, Wide, tree-one, rows-held, root-rows, numbers-rows, pairs-rows}
+use Rattle.walk.proofs.Towers.{tops, each-left, each-right, Wide, tree-one, rows-held, root-rows, numbers-rows, pairs-rows}
 use Rattle.walk.specs.Walks.{lastly, span, zeros, place, walk}
-use Rattle.walk.proofs.WalkLaws.{span-pad, pad-zeros, inner-does}
-use Rattle.walk.proofs.WalkExact.{store, Ranged, walk-does, meets-does, lowOf, fresh-left, fresh-right, marks-append, each-left, each-right, lower-pos}
+use Rattle.walk.proofs.WalkLaws.{lower-some, span-pad, pad-zeros, inner-does}
+use Rattle.walk.proofs.WalkExact.{store, Ranged, walk-does, meets-does, lowOf, fresh-left, fresh-right, marks-append}
 use Rattle.sound.specs.Checks.{levels, wide, fine, treeWalk, trees, frees, allMarked, framed, stacked, filled, checked}
-use Rattle.sound.proofs.CheckLaws.{rising-climbs, Parts, parts, trees-held, trees-skip, nodes-part, total-reverse}
-use Rattle.sound.proofs.CheckYes.{marked-does}
+use Rattle.sound.proofs.CheckLaws.{rising-climbs, Parts, parts, trees-held, nodes-part, total-reverse}
+use Rattle.sound.proofs.CheckYes.{all-small, marked-does}
 use Rattle.forest.proofs.RowLaws.{length-line}
 
 -- Six levels at most: a subtree of h inner levels that is not on the right edge has this many nodes
@@ -89,64 +90,16 @@ few-levels m (suc h) t f w l = elim (test (leb 5 h)) [
   | isnt e ↦ let g = leb-false 5 h e in omega arith
 ]
 
--- As many numbers as there are, no more
+-- Numbers that are counted once at most, and none but those from 1 to N
 module _ (N : ℕ) where
   abbrev pub Counted : List ℕ → Type 0
   Counted us = (k : ℕ) → count k us ≤ once (leb 1 k && leb k N)
-
-  in-range : (k : ℕ) → 1 ≤ once (leb 1 k && leb k N) → (1 ≤ k) × (k ≤ N)
-  in-range k h = elim (test (leb 1 k)) [
-    | isnt a ↦ absurd (let z = simp a at h in omega arith)
-    | is a ↦ elim (test (leb k N)) [
-      | isnt b ↦ absurd (let z = simp (a, b) at h in omega arith)
-      | is b ↦ (leb-true 1 k a, leb-true k N b)
-    ]
-  ]
 
   pub counted-range : (us : List ℕ) → Counted us → Each (λ k. (1 ≤ k) × (k ≤ N)) us
   counted-range [] c = tt
   counted-range (u ∷ us) c =
       let o : once (eqb u u) ≡ 1 = ap once (eq-eqb u u refl) in
-      (in-range u (omega (arith, c u)), counted-range us (λ k. omega (arith, c k)))
-
-  upto-suc : (n x : ℕ) → once (leb x (suc n)) ≡ once (leb x n) + once (eqb (suc n) x)
-  upto-suc n x = elim (test (leb x n)) [
-    | is a ↦ let l = leb-true x n a in rw (a, le-leb x (suc n) (omega arith), ne-eqb (suc n) x (omega arith))
-    | isnt a ↦ let l = leb-false x n a in elim (test (eqb (suc n) x)) [
-      | is b ↦ let e = eqb-true (suc n) x b in rw (a, b, le-leb x (suc n) (omega arith))
-      | isnt b ↦ let e = eqb-false (suc n) x b in rw (a, b, lt-leb x (suc n) (omega arith))
-    ]
-  ]
-
-  total-upto : (n : ℕ) (us : List ℕ) → total (λ x. once (leb x (suc n))) us ≡ total (λ x. once (leb x n)) us + count (suc n) us
-  total-upto n [] = refl
-  total-upto n (u ∷ us) = omega (arith, upto-suc n u, total-upto n us)
-
-  upto-zero : (x : ℕ) → once (leb x 0) ≡ once (eqb 0 x)
-  upto-zero zero = refl
-  upto-zero (suc x) = rw (lt-leb (suc x) 0 (omega arith), ne-eqb 0 (suc x) (omega arith))
-
-  total-zero : (us : List ℕ) → total (λ x. once (leb x 0)) us ≡ count 0 us
-  total-zero [] = refl
-  total-zero (u ∷ us) = omega (arith, upto-zero u, total-zero us)
-
-  once-le : (b : Bool) → once b ≤ 1
-  once-le true = omega arith
-  once-le false = omega arith
-
-  none-zero : (us : List ℕ) → Counted us → count 0 us ≤ 0
-  none-zero us c = c 0
-
-  total-few : (n : ℕ) (us : List ℕ) → Counted us → total (λ x. once (leb x n)) us ≤ n
-  total-few zero us c = omega (arith, total-zero us, none-zero us c)
-  total-few (suc n) us c = omega (arith, total-upto n us, total-few n us c, c (suc n), once-le (leb 1 (suc n) && leb (suc n) N))
-
-  total-all : (us : List ℕ) → Each (λ k. (1 ≤ k) × (k ≤ N)) us → total (λ x. once (leb x N)) us ≡ length us
-  total-all [] e = refl
-  total-all (u ∷ us) e = omega (arith, ap once (le-leb u N (e .0 .1)), total-all us (e .1))
-
-  pub counted-few : (us : List ℕ) → Counted us → length us ≤ N
-  counted-few us c = omega (arith, total-all us (counted-range us c), total-few N us c)
+      (in-range u N (omega (arith, c u)), counted-range us (λ k. omega (arith, c k)))
 
 leaf-word : (ws : List ℕ) (b : ℕ) (xs : List Item) → span ws b 16 ≡ leafWords xs → getD ws b 0 ≡ 32 + length xs
 leaf-word ws b xs e = ap (λ (l : List ℕ). getD l 0 0) e
@@ -164,7 +117,7 @@ module _ (ws : List ℕ) (T N m : ℕ) where
   -- the way down by first children ends at the leaves
   first-level : (f h n : ℕ) (e : Bool) (ts : List (Sub h)) → Each InN (n ∷ flat (numsOf h) ts) → Filled m 7 (suc h) e (n, ts) → Held st (suc h) (n, ts) →
       ((e : Bool) (t : Sub h) → Each InN (numsOf h t) → Filled m 7 h e t → Held st h t → levels ws T N f (crown h t .num) ≡ h) → levels ws T N (suc f) n ≡ suc h
-  first-level f h n e [] r i d go = absurd (omega (arith, lower-pos e, i .0))
+  first-level f h n e [] r i d go = absurd (omega (arith, lower-some e 4 (omega arith), i .0))
   first-level f h n e (t ∷ ts) r i d go =
       let k : length (line (tops h ts)) ≡ length ts = length-line (tops h ts) ∙ length-map ts (crown h) in
       let x = inner-does ws (place T n) e (lowOf h t, crown h t .num) (line (tops h ts)) (d .0) (rw k (i .0)) (rw k (i .1)) in
@@ -285,8 +238,8 @@ module _ (ws : List ℕ) (T N m : ℕ) where
 
     held : Each (HeldTree st) ts
     held =
-        trees-held st ts (λ n. pad 16 []) (λ n. omega (arith, trees-once n, once-le N (leb 1 n && leb n N)))
-        (λ n c. let r = in-range N n (omega (arith, trees-once n)) in node-is n (r .0) (r .1))
+        trees-held st ts (λ n. pad 16 []) (λ n. omega (arith, trees-once n, small (leb 1 n && leb n N)))
+        (λ n c. let r = in-range n N (omega (arith, trees-once n)) in node-is n (r .0) (r .1))
 
     the-trees : TreesDoes ts
     the-trees = trees-do ts good held
@@ -299,7 +252,7 @@ module _ (ws : List ℕ) (T N m : ℕ) where
 
     all-once : (k : ℕ) → count k (us ++ vs) ≡ once (leb 1 k && leb k N)
     all-once k =
-        total-append (λ x. once (eqb k x)) us vs ∙
+        count-append k us vs ∙
         rw (← (the-trees .numbered (λ x. once (eqb k x))), total-reverse (λ x. once (eqb k x)) free) (each-once k)
 
     counted : Counted N (us ++ vs)
@@ -308,29 +261,25 @@ module _ (ws : List ℕ) (T N m : ℕ) where
     ranged : Each InN (us ++ vs)
     ranged = counted-range N (us ++ vs) counted
 
-    small : (xs : List ℕ) → Each InN xs → Each Small xs
-    small [] e = tt
-    small (x ∷ xs) e = ((e .0 .0, omega arith), small xs (e .1))
-
     fresh : Fresh clean (us ++ vs)
     fresh =
-        fresh-once clean (us ++ vs) refl (small (us ++ vs) ranged)
-        (λ k. omega (arith, all-once k, once-le N (leb 1 k && leb k N), ap once (has-clean k)))
+        fresh-once clean (us ++ vs) refl (all-small N (us ++ vs) few ranged)
+        (λ k. omega (arith, all-once k, small (leb 1 k && leb k N), ap once (has-clean k)))
 
     number : length (us ++ vs) ≤ N
-    number = counted-few N (us ++ vs) counted
+    number = few-numbers N (us ++ vs) counted
 
     blank : (ns : List ℕ) → ((k : ℕ) → count k ns ≤ count k free) → Each InN ns → Each (λ n. st n ≡ pad 16 []) ns
     blank [] c r = tt
     blank (n ∷ ns) c r =
         let o : once (eqb n n) ≡ 1 = ap once (eq-eqb n n refl) in (
-          node-is n (r .0 .0) (r .0 .1) ∙ trees-skip n ts (pad 16 []) (omega (arith, each-once n, c n, once-le N (leb 1 n && leb n N))),
+          node-is n (r .0 .0) (r .0 .1) ∙ trees-miss n ts (pad 16 []) (omega (arith, each-once n, c n, small (leb 1 n && leb n N))),
           blank ns (λ k. omega (arith, c k)) (r .1),
         )
 
     full : allMarked (markAll clean (us ++ vs)) N ≡ true
     full = marked-does (markAll clean (us ++ vs)) N (λ k a b. once-true _
-        (marks-count clean (us ++ vs) refl (small (us ++ vs) ranged) fresh k ∙ rw (all-once k, has-clean k, le-leb 1 k a, le-leb k N b)))
+        (marks-count clean (us ++ vs) refl (all-small N (us ++ vs) few ranged) fresh k ∙ rw (all-once k, has-clean k, le-leb 1 k a, le-leb k N b)))
       where
         once-true : (b : Bool) → once b ≡ 1 → b ≡ true
         once-true true e = refl

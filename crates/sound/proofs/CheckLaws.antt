@@ -1,6 +1,6 @@
 -- PROOFS. For the check of a whole pool: order, the layout of the words, nodes by number, counts
 use mathlib.Core.Path.{_≡_, refl, sym, ap, ap₂, _∙_}
-use mathlib.Core.List.{List, [], _∷_, _++_, append-nil, reverse, reverseAux}
+use mathlib.Core.List.{List, [], _∷_, _++_, reverse, reverseAux}
 use mathlib.Core.Bool.{true}
 use Prim.Native.Nat.{ℕ, zero, suc, _+_, _-_, _*_, _≤_, _<_}
 use native.Mathlib.Omega.{arith}
@@ -13,11 +13,12 @@ use Rattle.forest.specs.Pairs.{Item, Above, Rising}
 use Rattle.forest.specs.Rows.{Node, Row, Tree, nums}
 use Rattle.forest.specs.Trees.{numbers}
 use Rattle.forest.specs.Pools.{leafWords, innerWords, used, inRow, inRows, inTree, inTrees, nodeWords, nodesFrom}
-use Rattle.forest.proofs.ListLaws.{is, isnt, test, total-append}
+use Rattle.forest.proofs.ListLaws.{is, isnt, test, both, total-append, append-parts}
 use Rattle.walk.proofs.Subtree.{Each, HeldRows, HeldTree}
 use Rattle.walk.specs.Walks.{span, climbs, place}
-use Rattle.walk.proofs.WalkLaws.{both, length-span, span-append, append-parts}
+use Rattle.walk.proofs.WalkLaws.{length-span, span-append}
 use Rattle.forest.proofs.CountLaws.{node-length}
+use Rattle.forest.proofs.WordLaws.{row-miss, tree-miss, count-append}
 
 -- Order
 climbs-above : (k q : ℕ) (xs : List Item) → k < q → climbs q xs ≡ true → Above k xs
@@ -113,25 +114,6 @@ module _ (st : ℕ → List ℕ) where
       tree-finds n x (inTrees n xs or) (h .0) (λ z. trees-find n xs or (h .1) (λ y. o (total-append _ (numbers x) (used xs) ∙ omega arith)))
 
   -- and back: no number twice, and each found: so the nodes are held
-  row-skips : (words : List Item → List ℕ) (n : ℕ) (R : Row) (or : List ℕ) → count n (nums R) ≡ 0 → inRow words n R or ≡ or
-  row-skips words n [] or c = refl
-  row-skips words n (k ∷ R) or c = elim (test (eqb n (k .num))) [
-    | is e ↦ absurd (omega (arith, ap once e))
-    | isnt e ↦ simp e (row-skips words n R or (omega (arith, ap once e)))
-  ]
-
-  rows-skip : (n : ℕ) (Rs : List Row) (or : List ℕ) → count n (numbers Rs) ≡ 0 → inRows n Rs or ≡ or
-  rows-skip n [] or c = refl
-  rows-skip n (R ∷ Rs) or c =
-      let s = total-append (λ x. once (eqb n x)) (nums R) (numbers Rs) in
-      row-skips innerWords n R (inRows n Rs or) (omega arith) ∙ rows-skip n Rs or (omega arith)
-
-  tree-skips : (n : ℕ) (x : Tree) (or : List ℕ) → count n (numbers x) ≡ 0 → inTree n x or ≡ or
-  tree-skips n [] or c = refl
-  tree-skips n (R ∷ Rs) or c =
-      let s = total-append (λ x. once (eqb n x)) (nums R) (numbers Rs) in
-      row-skips leafWords n R (inRows n Rs or) (omega arith) ∙ rows-skip n Rs or (omega arith)
-
   row-held : (words : List Item → List ℕ) (R : Row) (or : ℕ → List ℕ) → ((n : ℕ) → count n (nums R) ≤ 1) → ((n : ℕ) → 1 ≤ count n (nums R) → st n ≡ inRow words n R (or n)) →
       Each (λ (k : Node). st (k .num) ≡ words (k .items)) R
   row-held words [] or c h = tt
@@ -147,42 +129,29 @@ module _ (st : ℕ → List ℕ) where
   rows-held : (Rs : List Row) (or : ℕ → List ℕ) → ((n : ℕ) → count n (numbers Rs) ≤ 1) → ((n : ℕ) → 1 ≤ count n (numbers Rs) → st n ≡ inRows n Rs (or n)) → HeldRows st Rs
   rows-held [] or c h = tt
   rows-held (R ∷ Rs) or c h =
-      let s : (n : ℕ) → count n (nums R ++ numbers Rs) ≡ count n (nums R) + count n (numbers Rs) = λ n. total-append (λ x. once (eqb n x)) (nums R) (numbers Rs) in (
+      let s : (n : ℕ) → count n (nums R ++ numbers Rs) ≡ count n (nums R) + count n (numbers Rs) = λ n. count-append n (nums R) (numbers Rs) in (
         row-held innerWords R (λ n. inRows n Rs (or n)) (λ n. omega (arith, c n, s n)) (λ n z. h n (omega (arith, s n))),
         rows-held Rs or (λ n. omega (arith, c n, s n))
-            (λ n z. h n (omega (arith, s n)) ∙ row-skips innerWords n R (inRows n Rs (or n)) (omega (arith, c n, s n))),
+            (λ n z. h n (omega (arith, s n)) ∙ row-miss n innerWords R (inRows n Rs (or n)) (omega (arith, c n, s n))),
       )
 
   tree-held : (x : Tree) (or : ℕ → List ℕ) → ((n : ℕ) → count n (numbers x) ≤ 1) → ((n : ℕ) → 1 ≤ count n (numbers x) → st n ≡ inTree n x (or n)) → HeldTree st x
   tree-held [] or c h = tt
   tree-held (R ∷ Rs) or c h =
-      let s : (n : ℕ) → count n (nums R ++ numbers Rs) ≡ count n (nums R) + count n (numbers Rs) = λ n. total-append (λ x. once (eqb n x)) (nums R) (numbers Rs) in (
+      let s : (n : ℕ) → count n (nums R ++ numbers Rs) ≡ count n (nums R) + count n (numbers Rs) = λ n. count-append n (nums R) (numbers Rs) in (
         row-held leafWords R (λ n. inRows n Rs (or n)) (λ n. omega (arith, c n, s n)) (λ n z. h n (omega (arith, s n))),
         rows-held Rs or (λ n. omega (arith, c n, s n))
-            (λ n z. h n (omega (arith, s n)) ∙ row-skips leafWords n R (inRows n Rs (or n)) (omega (arith, c n, s n))),
+            (λ n z. h n (omega (arith, s n)) ∙ row-miss n leafWords R (inRows n Rs (or n)) (omega (arith, c n, s n))),
       )
 
   pub trees-held : (xs : List Tree) (or : ℕ → List ℕ) → ((n : ℕ) → count n (used xs) ≤ 1) → ((n : ℕ) → 1 ≤ count n (used xs) → st n ≡ inTrees n xs (or n)) → Each (HeldTree st) xs
   trees-held [] or c h = tt
   trees-held (x ∷ xs) or c h =
-      let s : (n : ℕ) → count n (numbers x ++ used xs) ≡ count n (numbers x) + count n (used xs) = λ n. total-append (λ y. once (eqb n y)) (numbers x) (used xs) in (
+      let s : (n : ℕ) → count n (numbers x ++ used xs) ≡ count n (numbers x) + count n (used xs) = λ n. count-append n (numbers x) (used xs) in (
         tree-held x (λ n. inTrees n xs (or n)) (λ n. omega (arith, c n, s n)) (λ n z. h n (omega (arith, s n))),
         trees-held xs or (λ n. omega (arith, c n, s n))
-            (λ n z. h n (omega (arith, s n)) ∙ tree-skips n x (inTrees n xs (or n)) (omega (arith, c n, s n))),
+            (λ n z. h n (omega (arith, s n)) ∙ tree-miss n x (inTrees n xs (or n)) (omega (arith, c n, s n))),
       )
-
-pub trees-skip : (n : ℕ) (xs : List Tree) (or : List ℕ) → count n (used xs) ≡ 0 → inTrees n xs or ≡ or
-trees-skip n [] or c = refl
-trees-skip n (x ∷ xs) or c =
-    let s = total-append (λ y. once (eqb n y)) (numbers x) (used xs) in
-    tree-skips (λ k. []) n x (inTrees n xs or) (omega arith) ∙ trees-skip n xs or (omega arith)
-
-length-inRow : (words : List Item → List ℕ) → ((xs : List Item) → length (words xs) ≡ 16) → (n : ℕ) (R : Row) (or : List ℕ) → length or ≡ 16 → length (inRow words n R or) ≡ 16
-length-inRow words w n [] or l = l
-length-inRow words w n (k ∷ R) or l = elim (test (eqb n (k .num))) [
-  | is e ↦ simp e (w (k .items))
-  | isnt e ↦ simp e (length-inRow words w n R or l)
-]
 
 -- the words of the nodes, one by one
 module _ (ws : List ℕ) (T : ℕ) (xs : List Tree) where
@@ -213,10 +182,3 @@ total-reverseAux w (x ∷ xs) r = total-reverseAux w xs (x ∷ r) ∙ omega arit
 
 pub total-reverse : (w : ℕ → ℕ) (xs : List ℕ) → total w (reverse xs) ≡ total w xs
 total-reverse w xs = total-reverseAux w xs [] ∙ omega arith
-
-reverse-aux : (xs r s : List ℕ) → reverseAux (reverseAux xs r) s ≡ reverseAux r (xs ++ s)
-reverse-aux [] r s = refl
-reverse-aux (x ∷ xs) r s = reverse-aux xs (x ∷ r) s
-
-pub reverse-twice : (xs : List ℕ) → reverse (reverse xs) ≡ xs
-reverse-twice xs = reverse-aux xs [] [] ∙ append-nil xs

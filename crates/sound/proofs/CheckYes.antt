@@ -1,6 +1,6 @@
 -- PROOFS. Where the check says yes the words are those of a well formed pool
 use mathlib.Core.Path.{_≡_, refl, sym, ap, _∙_, subst}
-use mathlib.Core.List.{List, [], _∷_, _++_, append-nil, map, reverse}
+use mathlib.Core.List.{List, [], _∷_, _++_, append-nil, map, reverse, reverse-reverse}
 use mathlib.Core.Bool.{true, cond, true≢false, _&&_}
 use Prim.Native.Nat.{ℕ, zero, suc, _+_, _-_, _*_, _≤_}
 use native.Mathlib.Omega.{arith}
@@ -11,17 +11,18 @@ use Rattle.forest.specs.Lists.{once, total, count, pad}
 use Rattle.forest.specs.Rows.{Tree, Good}
 use Rattle.forest.specs.Trees.{numbers}
 use Rattle.forest.specs.Pools.{Pool, WellFormed, AllGood, used, root, nodeWords, nodesFrom, encode, Sound}
-use Rattle.forest.proofs.ListLaws.{is, isnt, test, total-append}
+use Rattle.forest.proofs.ListLaws.{is, isnt, test, both, four, total-append}
 use Rattle.walk.specs.declared.Walked.{Walked}
 use Rattle.walk.specs.Marks.{has, mark, markAll}
 use Rattle.walk.proofs.MarkLaws.{Small, marks-count, clean, has-clean}
 use Rattle.walk.proofs.Subtree.{flat, rowsOf, pairsOf, numsOf, Each, HeldTree, Fresh}
-use Rattle.walk.proofs.Towers.{Wide, one-good, held-rows, root-rows, numbers-rows}
+use Rattle.walk.proofs.Towers.{each-join, Wide, one-good, held-rows, root-rows, numbers-rows}
 use Rattle.walk.specs.Walks.{span, zeros, place, meets, others, walk}
-use Rattle.walk.proofs.WalkLaws.{both, four, length-span, zeros-pad, pad-span, length-items}
-use Rattle.walk.proofs.WalkExact.{store, Ranged, sub, num-sub, subs, length-subs, walk-yes, meets-yes, fresh-join, marks-append, each-join}
+use Rattle.walk.proofs.WalkLaws.{length-span, zeros-pad, pad-span, length-items}
+use Rattle.walk.proofs.WalkExact.{store, Ranged, sub, num-sub, subs, length-subs, walk-yes, meets-yes, fresh-join, marks-append}
 use Rattle.sound.specs.Checks.{levels, wide, fine, treeWalk, trees, frees, allMarked, framed, stacked, filled, checked}
-use Rattle.sound.proofs.CheckLaws.{climbs-rising, layout, trees-find, nodes-join, total-reverse, reverse-twice}
+use Rattle.sound.proofs.CheckLaws.{climbs-rising, layout, trees-find, nodes-join, total-reverse}
+use Rattle.forest.proofs.WordLaws.{count-append}
 
 -- Lists of numbers
 pub each-at : (P : ℕ → Type 0) (n : ℕ) (ns : List ℕ) → Each P ns → 1 ≤ count n ns → P n
@@ -36,6 +37,11 @@ each-none P n ns e f = elim (test (leb 1 (count n ns))) [
   | is h ↦ absurd (f (each-at P n ns e (leb-true 1 (count n ns) h)))
   | isnt h ↦ let g = leb-false 1 (count n ns) h in omega arith
 ]
+
+-- numbers from 1 to N have a place among the marks
+pub all-small : (N : ℕ) (ns : List ℕ) → N ≤ 512 → Each (λ k. (1 ≤ k) × (k ≤ N)) ns → Each Small ns
+all-small N [] h e = tt
+all-small N (n ∷ ns) h e = ((e .0 .0, omega arith), all-small N ns h (e .1))
 
 pub marked-yes : (ms : List ℕ) (n : ℕ) → allMarked ms n ≡ true → (k : ℕ) → 1 ≤ k → k ≤ n → has ms k ≡ true
 marked-yes ms zero a k g h = absurd (omega arith)
@@ -173,12 +179,8 @@ module _ (ws : List ℕ) (T N m : ℕ) where
 
   -- each number once
   module _ (few : N ≤ 512) (us : List ℕ) (ranged : Each InN us) (fresh : Fresh clean us) (full : allMarked (markAll clean us) N ≡ true) where
-    small : (xs : List ℕ) → Each InN xs → Each Small xs
-    small [] e = tt
-    small (x ∷ xs) e = ((e .0 .0, omega arith), small xs (e .1))
-
     marks-are : (k : ℕ) → once (has (markAll clean us) k) ≡ count k us
-    marks-are k = marks-count clean us refl (small us ranged) fresh k ∙ rw (has-clean k) (omega arith)
+    marks-are k = marks-count clean us refl (all-small N us few ranged) fresh k ∙ rw (has-clean k) (omega arith)
 
     pub once-each : (k : ℕ) → count k us ≡ once (leb 1 k && leb k N)
     once-each k = elim (test (leb 1 k)) [
@@ -254,7 +256,7 @@ module _ (ws : List ℕ) (T N m : ℕ) where
     each-once : (k : ℕ) → count k (used ts) + count k (reverse (span ws S F)) ≡ once (leb 1 k && leb k N)
     each-once k =
         rw (walked-trees .numbered (λ x. once (eqb k x)), total-reverse (λ x. once (eqb k x)) (span ws S F))
-        (sym (total-append (λ x. once (eqb k x)) us (span ws S F)) ∙
+        (sym (count-append k us (span ws S F)) ∙
         once-each (frame .few-nodes) (us ++ span ws S F) (each-join InN us (span ws S F) (walked-trees .ranged) (the-rest .frees-ok .ranged))
         (fresh-join clean us (span ws S F) (walked-trees .fresh) (the-rest .frees-ok .fresh)) (the-rest .full) k)
 
@@ -281,7 +283,7 @@ module _ (ws : List ℕ) (T N m : ℕ) where
         let f : length (reverse (span ws S F)) ≡ F = length-reverse (span ws S F) ∙ length-span ws S F in
         let p : place T 1 ≡ T + 2 = omega arith in
         let n : span ws (T + 2) (16 * N) ≡ nodesFrom ts 1 N = rw p at (nodes-join ws T ts 1 N (omega arith) (λ k a b. node-same k a (omega arith))) in
-        rw (l, walked-trees .rooted, ← n, f, reverse-twice (span ws S F), pad-span ws N F S (frame .few-free) (the-rest .empty))
+        rw (l, walked-trees .rooted, ← n, f, reverse-reverse (span ws S F), pad-span ws N F S (frame .few-free) (the-rest .empty))
         (sym (layout ws T N (frame .long) ∙ rw (t-same, n-same)))
 
     pub sound-of : Sound m ws

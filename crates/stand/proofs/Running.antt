@@ -14,7 +14,7 @@ use Rattle.forest.specs.Rows.{Row, Tree, size, sizes, nums, Tower}
 use Rattle.forest.specs.Pools.{Pool, treeOf, leafWords, innerWords, root, rootAbove}
 use Rattle.forest.specs.Cursors.{Spot, off, on, sizeAt, Fits, Path, pathUp, pathOf, spotOf, runs, levelsOf, pathIn, allZero, clean, stands}
 use Rattle.forest.specs.declared.Cursor.{Cursor}
-use Rattle.forest.proofs.ListLaws.{is, isnt, test, tests}
+use Rattle.forest.proofs.ListLaws.{is, isnt, test, tests, both}
 use Rattle.forest.proofs.RowLaws.{length-items}
 use Rattle.forest.proofs.CursorLaws.{runs-yes, runs-fits, runs-path}
 use Rattle.path.specs.Ways.{base, block}
@@ -25,10 +25,6 @@ use Rattle.path.proofs.Steps.{first-word, link-word-at}
 use Rattle.path.proofs.Roots.{root-is, lies-there, some-root}
 use Rattle.walk.specs.Walks.{zeros}
 use Rattle.stand.specs.Runs.{ended, runsFrom, levelsFrom, standsAt, Tells}
-
-and-parts : (a b : Bool) → (a && b) ≡ true → (a ≡ true) × (b ≡ true)
-and-parts true b h = (refl, h)
-and-parts false b h = absurd (true≢false (sym h))
 
 both-ways : (a b : Bool) → (a ≡ true → b ≡ true) → (b ≡ true → a ≡ true) → a ≡ b
 both-ways true b f g = sym (f refl)
@@ -53,9 +49,9 @@ module _ (ws : List ℕ) (t : ℕ) where
   at-leaf : (n : ℕ) (path : Path) → 32 ≤ getD (block ws t n) 0 0 → runsFrom ws t n path ≡ true → AtLeaf ws t n path
   at-leaf n [] h r = absurd (true≢false (sym r))
   at-leaf n (q ∷ qs) h r =
-      let a = and-parts (eqb (q .0) n) (cond (leb 32 (getD (block ws t n) 0 0)) (ended qs && leb (q .1 + 32) (getD (block ws t n) 0 0)) (leb (q .1 + 16) (getD (block ws t n) 0 0) && runsFrom ws t (getD (block ws t n) (8 + q .1) 0) qs)) r in
+      let a = both (eqb (q .0) n) (cond (leb 32 (getD (block ws t n) 0 0)) (ended qs && leb (q .1 + 32) (getD (block ws t n) 0 0)) (leb (q .1 + 16) (getD (block ws t n) 0 0) && runsFrom ws t (getD (block ws t n) (8 + q .1) 0) qs)) r in
       let b : (ended qs && leb (q .1 + 32) (getD (block ws t n) 0 0)) ≡ true = simp (le-leb 32 (getD (block ws t n) 0 0) h) at (a .1) in
-      let d = and-parts (ended qs) (leb (q .1 + 32) (getD (block ws t n) 0 0)) b in
+      let d = both (ended qs) (leb (q .1 + 32) (getD (block ws t n) 0 0)) b in
       record { e = q .1; same = go qs (a .0) (d .0); most = leb-true _ _ (d .1) }
     where
       go : (us : Path) → eqb (q .0) n ≡ true → ended us ≡ true → (n, q .1) ∷ [] ≡ q ∷ us
@@ -65,9 +61,9 @@ module _ (ws : List ℕ) (t : ℕ) where
   at-inner : (n : ℕ) (path : Path) → getD (block ws t n) 0 0 < 32 → runsFrom ws t n path ≡ true → AtInner ws t n path
   at-inner n [] h r = absurd (true≢false (sym r))
   at-inner n (q ∷ qs) h r =
-      let a = and-parts (eqb (q .0) n) (cond (leb 32 (getD (block ws t n) 0 0)) (ended qs && leb (q .1 + 32) (getD (block ws t n) 0 0)) (leb (q .1 + 16) (getD (block ws t n) 0 0) && runsFrom ws t (getD (block ws t n) (8 + q .1) 0) qs)) r in
+      let a = both (eqb (q .0) n) (cond (leb 32 (getD (block ws t n) 0 0)) (ended qs && leb (q .1 + 32) (getD (block ws t n) 0 0)) (leb (q .1 + 16) (getD (block ws t n) 0 0) && runsFrom ws t (getD (block ws t n) (8 + q .1) 0) qs)) r in
       let b : (leb (q .1 + 16) (getD (block ws t n) 0 0) && runsFrom ws t (getD (block ws t n) (8 + q .1) 0) qs) ≡ true = simp (lt-leb 32 (getD (block ws t n) 0 0) h) at (a .1) in
-      let d = and-parts (leb (q .1 + 16) (getD (block ws t n) 0 0)) (runsFrom ws t (getD (block ws t n) (8 + q .1) 0) qs) b in
+      let d = both (leb (q .1 + 16) (getD (block ws t n) 0 0)) (runsFrom ws t (getD (block ws t n) (8 + q .1) 0) qs) b in
       let k : n ≡ q .0 = sym (eqb-true (q .0) n (a .0)) in
       record { o = q .1; rest = qs; same = λ i. (k i, q .1) ∷ qs; most = leb-true _ _ (d .0); on = d .1 }
 

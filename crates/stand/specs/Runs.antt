@@ -11,11 +11,12 @@ use Rattle.forest.specs.Pools.{Pool, treeOf}
 use Rattle.path.specs.Ways.{block}
 use Rattle.path.specs.Cores.{Of}
 
--- a path runs from node n to a leaf: each node is the named child, and the leaf place is at most the entry count
+-- has the path no level left
 abbrev pub ended : Path → Bool
 ended [] = true
 ended (q ∷ qs) = false
 
+-- a path runs from node n to a leaf: each node is the named child, and the leaf place is at most the entry count
 abbrev pub runsFrom : List ℕ → ℕ → ℕ → Path → Bool
 runsFrom ws t n [] = false
 runsFrom ws t n (q ∷ qs) =

@@ -1,6 +1,7 @@
 // Where a cursor stands.
 ghost use mathlib.Core.Path.{_≡_};
 ghost use Prim.Native.Nat.{_-_, _≤_};
+ghost use Rattle.forest.specs.Sizes.{mostTrees, mostLevels};
 ghost use Rattle.path.specs.Ways.{Deep};
 ghost use Rattle.path.specs.Cores.{Ready};
 ghost use Rattle.stand.specs.Runs.{runsFrom, levelsFrom, Tells};
@@ -9,7 +10,7 @@ use forest::Cursor;
 // Whether the levels from l on run from a node to a leaf.
 fn runs_from(ws: &[u32], t: usize, c: Cursor, l: usize, node: u32) -> bool
     requires { ⌜ Deep (c .size - l) (now ws) t node ⌝ }
-    requires { ⌜ (t ≤ 32) × (c .size ≤ 16) ⌝ }
+    requires { ⌜ (t ≤ mostTrees) × (c .size ≤ mostLevels) ⌝ }
     ensures { λ r. ⌜ r ≡ runsFrom (now (ws .entry)) t node (levelsFrom c l) ⌝ }
 {
     let size = c.size as usize;

@@ -13,9 +13,9 @@ use borrow.Author.Tests.{eq-eqb, ne-eqb, le-leb, lt-leb, leb-true}
 use Rattle.walk.specs.Marks.{bit, has, mark}
 use Rattle.walk.specs.Walks.{lower}
 use Rattle.walk.specs.Walks.{items, zeros, climbs, ends, bad, meets, leafFits, leafWalk, innerFits}
-use Rattle.walk.proofs.WalkLaws.{four}
+use Rattle.walk.proofs.WalkLaws.{lower-some}
 use Rattle.walk.specs.declared.Walked.{Walked}
-use Rattle.forest.proofs.ListLaws.{is, isnt, test}
+use Rattle.forest.proofs.ListLaws.{is, isnt, test, four}
 
 module _ (ws : List ℕ) (a r i : ℕ) where
   left : i < r → r - i ≡ suc (r - (i + 1))
@@ -124,10 +124,6 @@ and-false r s e = rw e
 
 pub and-true : (r s t : Bool) → r ≡ true → t ≡ s → r && s ≡ t
 and-true r s t e d = rw (e, d)
-
-lower-some : (e : Bool) (m : ℕ) → 1 ≤ m → 1 ≤ lower e m
-lower-some true m h = omega arith
-lower-some false m h = h
 
 -- what a node that fits says of its first word
 pub leaf-bounds : (ws : List ℕ) (b : ℕ) (e : Bool) → leafFits ws leafLeast b e ≡ true → (33 ≤ getD ws b 0) × (getD ws b 0 ≤ 39)

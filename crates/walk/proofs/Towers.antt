@@ -14,6 +14,7 @@ use Rattle.forest.specs.Pools.{leafWords, innerWords, root, rootAbove}
 use Rattle.forest.proofs.ListLaws.{map-append, map-take, map-drop, total-append}
 use Rattle.walk.proofs.Subtree
 use Rattle.walk.specs.Walks
+use Rattle.walk.proofs.WalkLaws.{lower-some}
 use Rattle.forest.proofs.RowLaws.{length-line}
 
 line-append : (R S : Row) → line (R ++ S) ≡ line R ++ line S
@@ -47,15 +48,15 @@ module _ {A : Type 0} (P : Bool → A → Type 0) where
   flagged-right e (x ∷ xs) ys f = flagged-right e xs ys (f .1)
 
 module _ {A : Type 0} (P : A → Type 0) where
-  each-join : (xs ys : List A) → Subtree.Each P xs → Subtree.Each P ys → Subtree.Each P (xs ++ ys)
+  pub each-join : (xs ys : List A) → Subtree.Each P xs → Subtree.Each P ys → Subtree.Each P (xs ++ ys)
   each-join [] ys f g = g
   each-join (x ∷ xs) ys f g = (f .0, each-join xs ys (f .1) g)
 
-  each-left : (xs ys : List A) → Subtree.Each P (xs ++ ys) → Subtree.Each P xs
+  pub each-left : (xs ys : List A) → Subtree.Each P (xs ++ ys) → Subtree.Each P xs
   each-left [] ys f = tt
   each-left (x ∷ xs) ys f = (f .0, each-left xs ys (f .1))
 
-  each-right : (xs ys : List A) → Subtree.Each P (xs ++ ys) → Subtree.Each P ys
+  pub each-right : (xs ys : List A) → Subtree.Each P (xs ++ ys) → Subtree.Each P ys
   each-right [] ys f = f
   each-right (x ∷ xs) ys f = each-right xs ys (f .1)
 
@@ -74,13 +75,9 @@ least-lower : (lo : ℕ) {A B : Type 0} (f : A → B) (g : B → ℕ) (ts : List
 least-lower lo f g [] = refl
 least-lower lo f g (t ∷ ts) = refl
 
-lower-pos : (e : Bool) (lo : ℕ) → 1 ≤ lo → 1 ≤ Walks.lower e lo
-lower-pos true lo h = omega arith
-lower-pos false lo h = h
-
 below-longer : (m c h : ℕ) (e : Bool) (ts : List (Subtree.Sub (suc h))) → Subtree.Flagged (Subtree.Filled m c (suc h)) e ts → length ts ≤ length (Subtree.below h ts)
 below-longer m c h e [] f = omega arith
-below-longer m c h e (t ∷ ts) f = rw length-append (omega (arith, lower-pos (Walks.lastly e ts) 4 (omega arith), f .0, below-longer m c h e ts (f .1)))
+below-longer m c h e (t ∷ ts) f = rw length-append (omega (arith, lower-some (Walks.lastly e ts) 4 (omega arith), f .0, below-longer m c h e ts (f .1)))
 
 -- fill, downward
 below-flagged : (m c h : ℕ) (e : Bool) (ts : List (Subtree.Sub (suc h))) → Subtree.Flagged (Subtree.Filled m c (suc h)) e ts → Subtree.Flagged (Subtree.Filled m c h) e (Subtree.below h ts)
@@ -222,7 +219,7 @@ module _ (h : ℕ) where
 module _ (m c h : ℕ) where
   kids-some : (u : Subtree.Sub (suc h)) (ts : List (Subtree.Sub (suc h))) → Fill 4 8 (sizes (tops (suc h) (u ∷ ts))) → 1 ≤ length (Subtree.below h (u ∷ ts))
   kids-some u ts f =
-      rw length-append (omega (arith, rw (least-lower 4 (Subtree.crown (suc h)) size ts, size-crown h u) at (f .0), lower-pos (Walks.lastly true ts) 4 (omega arith)))
+      rw length-append (omega (arith, rw (least-lower 4 (Subtree.crown (suc h)) size ts, size-crown h u) at (f .0), lower-some (Walks.lastly true ts) 4 (omega arith)))
 
   kids-fit : (t : Subtree.Sub (suc h)) (ts : List (Subtree.Sub (suc h))) → Fill 4 8 (sizes (tops (suc h) (t ∷ ts))) →
       (Walks.lower (Walks.lastly true ts) 4 ≤ length (t .1)) × (length (t .1) ≤ 8)

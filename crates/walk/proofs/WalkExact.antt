@@ -9,14 +9,14 @@ use lib.Dec.{leb, eqb}
 use borrow.Author.Tests.{eqb-true, eq-eqb, le-leb, leb-true, not-true}
 use Rattle.forest.specs.Pairs.{Item}
 use Rattle.forest.specs.Rows.{node, front, line}
-use Rattle.forest.proofs.ListLaws.{is, isnt, test}
+use Rattle.forest.proofs.ListLaws.{is, isnt, test, both}
 use Rattle.walk.specs.declared.Walked.{Walked}
 use Rattle.walk.specs.Marks.{has, mark, markAll}
 use Rattle.walk.proofs.Subtree.{Sub, crown, flat, pairsOf, numsOf, Flagged, Each, Filled, Held, Fresh}
-use Rattle.walk.specs.Walks.{lastly, lower}
-use Rattle.walk.proofs.Towers.{tops}
+use Rattle.walk.specs.Walks.{lastly}
+use Rattle.walk.proofs.Towers.{tops, each-join, each-left, each-right}
 use Rattle.walk.specs.Walks.{span, climbs, ends, bad, place, meets, leafFits, leafItems, leafWalk, innerFits, rest, others, innerWalk, walk}
-use Rattle.walk.proofs.WalkLaws.{both, leaf-yes, leaf-does, inner-yes, inner-does}
+use Rattle.walk.proofs.WalkLaws.{lower-some, leaf-yes, leaf-does, inner-yes, inner-does}
 use Rattle.forest.proofs.RowLaws.{length-line}
 
 -- Appended lists
@@ -48,19 +48,6 @@ pub fresh-right : (ms xs ys : List ℕ) → Fresh ms (xs ++ ys) → Fresh (markA
 fresh-right ms [] ys f = f
 fresh-right ms (x ∷ xs) ys f = fresh-right (mark ms x) xs ys (f .1)
 
-module _ {A : Type 0} (P : A → Type 0) where
-  pub each-join : (xs ys : List A) → Each P xs → Each P ys → Each P (xs ++ ys)
-  each-join [] ys f g = g
-  each-join (x ∷ xs) ys f g = (f .0, each-join xs ys (f .1) g)
-
-  pub each-left : (xs ys : List A) → Each P (xs ++ ys) → Each P xs
-  each-left [] ys f = tt
-  each-left (x ∷ xs) ys f = (f .0, each-left xs ys (f .1))
-
-  pub each-right : (xs ys : List A) → Each P (xs ++ ys) → Each P ys
-  each-right [] ys f = f
-  each-right (x ∷ xs) ys f = each-right xs ys (f .1)
-
 -- the subtrees of some children
 abbrev pub subs : {A : Type 0} → (ℕ → A) → List Item → List A
 subs f [] = []
@@ -77,10 +64,6 @@ lastly-subs f e (x ∷ xs) = refl
 lastly-line : (h : ℕ) (e : Bool) (ts : List (Sub h)) → lastly e (line (tops h ts)) ≡ lastly e ts
 lastly-line h e [] = refl
 lastly-line h e (t ∷ ts) = refl
-
-pub lower-pos : (e : Bool) → 1 ≤ lower e 4
-lower-pos true = omega arith
-lower-pos false = omega arith
 
 -- what the walks hand back that have met the subtrees ts
 abbrev pub met : (h : ℕ) → List (Sub h) → ℕ → List ℕ → ℕ → Walked
@@ -242,7 +225,7 @@ module _ (ws : List ℕ) (T N m : ℕ) where
     inner-fit : (t : Sub h) (ts : List (Sub h)) (i : innerFits ws p e ≡ true) → length ts ≡ length (others ws p) → line (tops h ts) ≡ others ws p → crown h t .num ≡ getD ws (p + 8) 0 →
         Fits h e (t ∷ ts) (mark ms n) q → Fit (suc h) e (n, t ∷ ts) ms q
     inner-fit t ts i l s u f =
-        let y = inner-yes ws p e i (lower-pos e) in
+        let y = inner-yes ws p e i (lower-some e 4 (omega arith)) in
         record {
           ranged = ((a, b), f .ranged);
           fresh = (c, f .fresh);
@@ -307,7 +290,7 @@ module _ (ws : List ℕ) (T N m : ℕ) where
       (e : Bool) (n : ℕ) (ts : List (Sub h)) (ms : List ℕ) (q : ℕ) → Fit (suc h) e (n, ts) ms q →
       cond (meets N ms n) (innerWalk f ws (place T n) e (mark ms n) q) bad ≡ met1 (suc h) (n, ts) ms q
   unfolding innerWalk
-  inner-met h f does e n [] ms q g = absurd (omega (arith, lower-pos e, g .filled .0))
+  inner-met h f does e n [] ms q g = absurd (omega (arith, lower-some e 4 (omega arith), g .filled .0))
   inner-met h f does e n (t ∷ ts) ms q g =
       let k : length (line (tops h ts)) ≡ length ts = length-line (tops h ts) ∙ length-map ts (crown h) in
       let i = inner-does ws (place T n) e (lowOf h t, crown h t .num) (line (tops h ts)) (g .held .0) (rw k (g .filled .0)) (rw k (g .filled .1)) in

@@ -1,7 +1,7 @@
 -- PROOFS. The walk says yes exactly where the words hold a subtree
 use mathlib.Core.Path.{_≡_, refl, sym, ap, _∙_}
 use mathlib.Core.List.{List, [], _∷_, _++_, map}
-use mathlib.Core.Bool.{Bool, true, false, true≢false, _&&_}
+use mathlib.Core.Bool.{Bool, true, false}
 use Prim.Native.Nat.{ℕ, zero, suc, _+_, _-_, _≤_}
 use native.Mathlib.Omega.{arith}
 use lib.ListN.{length, getD, length-map}
@@ -12,19 +12,13 @@ use Rattle.forest.specs.Pairs.{Item}
 use Rattle.forest.specs.Pools.{leafWords, innerWords}
 use Rattle.walk.specs.Walks.{lower}
 use Rattle.walk.specs.Walks.{span, items, zeros, leafFits, leafItems, innerFits, others}
+use Rattle.forest.proofs.ListLaws.{both, four, append-parts}
 use Rattle.forest.proofs.CountLaws.{length-pad}
 
--- Bool
-pub both : (a b : Bool) → a && b ≡ true → (a ≡ true) × (b ≡ true)
-both true b e = (refl, e)
-both false b e = absurd (true≢false (sym e))
-
-pub four : (a b c d : Bool) → a && (b && (c && d)) ≡ true → (a ≡ true) × (b ≡ true) × (c ≡ true) × (d ≡ true)
-four a b c d e =
-    let f = both a (b && (c && d)) e in
-    let g = both b (c && d) (f .1) in
-    let h = both c d (g .1) in
-    (f .0, g .0, h .0, h .1)
+-- a node has an item at least
+pub lower-some : (e : Bool) (m : ℕ) → 1 ≤ m → 1 ≤ lower e m
+lower-some true m h = omega arith
+lower-some false m h = h
 
 -- Words
 module _ (ws : List ℕ) where
@@ -100,17 +94,6 @@ module _ (ws : List ℕ) where
       let p1 : span ws (suc a) (length xs) ≡ map (λ (y : Item). y .0) xs = cc in
       let q1 : span ws (suc b) (length xs) ≡ map (λ (y : Item). y .1) xs = cc in
       rw (p0, q0, items-of (suc a) (suc b) xs p1 q1)
-
-module _ {A : Type 0} where
-  pub append-parts : (xs us ys vs : List A) → length xs ≡ length us → xs ++ ys ≡ us ++ vs → (xs ≡ us) × (ys ≡ vs)
-  append-parts [] [] ys vs h e = (refl, e)
-  append-parts [] (u ∷ us) ys vs h e = absurd (omega arith)
-  append-parts (x ∷ xs) [] ys vs h e = absurd (omega arith)
-  append-parts (x ∷ xs) (u ∷ us) ys vs h e =
-      let p : x ≡ u = cc in
-      let q : xs ++ ys ≡ us ++ vs = cc in
-      let i = append-parts xs us ys vs (omega arith) q in
-      (rw (p, i .0), i .1)
 
 -- A node's words
 module _ (ws : List ℕ) (b : ℕ) where

@@ -1,5 +1,5 @@
 use borrow.Author.Needs.{needs}
-use Prim.Native.Nat.{_+_, _-_}
+use Prim.Native.Nat.{_-_}
 use native.Mathlib.Omega.{arith}
 use mathlib.Core.Path.{refl}
 use Rattle.crit.proofs.WayLaws
@@ -33,133 +33,56 @@ current-crit-key-below t =
     (falls 1 current-crit-key-kinds.ps _<_ μ-current-crit-key t)
     current-crit-key.Pre
 
--- src/lib.rt:81:9
-current-crit-key-returns : (t : ℕ) → current-crit-key-lts.Need-returns (
-  current-crit-key-below t,
-  current-crit-key.Post,
-  load-reads.Asked,
-  load-reads.Learnt,
-) (current-crit-key-at t) current-crit-key.Post
-current-crit-key-returns t c = LeftLaws.crit-root _ (c .before .before .args .level) (omega arith) refl
-
--- src/lib.rt:86:13
-current-crit-key-sub-l : (t : ℕ) → current-crit-key-lts.Need-sub-l (
-  current-crit-key-below t,
-  current-crit-key.Post,
-  load-reads.Asked,
-  load-reads.Learnt,
-) (current-crit-key-at t) current-crit-key.Post
-current-crit-key-sub-l t c = search needs
-
--- src/lib.rt:87:13
-current-crit-key-mul-p : (t : ℕ) → current-crit-key-lts.Need-mul-p (
-  current-crit-key-below t,
-  current-crit-key.Post,
-  load-reads.Asked,
-  load-reads.Learnt,
-) (current-crit-key-at t) current-crit-key.Post
-current-crit-key-mul-p t c = search needs
-
--- src/lib.rt:87:13
-current-crit-key-element-copy-out-p : (t : ℕ) → current-crit-key-lts.Need-element-copy-out-p (
-  current-crit-key-below t,
-  current-crit-key.Post,
-  load-reads.Asked,
-  load-reads.Learnt,
-) (current-crit-key-at t) current-crit-key.Post
-current-crit-key-element-copy-out-p t c = search needs
-
--- src/lib.rt:87:13
-current-crit-key-cast-p : (t : ℕ) → current-crit-key-lts.Need-cast-p (
-  current-crit-key-below t,
-  current-crit-key.Post,
-  load-reads.Asked,
-  load-reads.Learnt,
-) (current-crit-key-at t) current-crit-key.Post
-current-crit-key-cast-p t c = search needs
-
--- src/lib.rt:89:9
-current-crit-key-current-crit-key-requires :
-    (t : ℕ) → current-crit-key-lts.Need-current-crit-key-requires (
-      current-crit-key-below t,
-      current-crit-key.Post,
-      load-reads.Asked,
-      load-reads.Learnt,
-    ) (current-crit-key-at t) current-crit-key.Post
-current-crit-key-current-crit-key-requires t c κs = (omega arith, WayLaws.way-up (c .before .before .before .before .pre .1) (c .before .before .before .before .args .level - 1) (omega arith))
-
--- src/lib.rt:89:9
-current-crit-key-returns-2 : (t : ℕ) → current-crit-key-lts.Need-returns-2 (
-  current-crit-key-below t,
-  current-crit-key.Post,
-  load-reads.Asked,
-  load-reads.Learnt,
-) (current-crit-key-at t) current-crit-key.Post
-current-crit-key-returns-2 t c = LeftLaws.crit-up (c .before .before .before .before .before .pre .1) (c .before .before .before .before .before .args .level - 1) (omega arith) _ (c .current-crit-key .result) refl (c .before .if2 .taken) (c .current-crit-key .ensures)
-
--- src/lib.rt:91:13
-current-crit-key-mul-n : (t : ℕ) → current-crit-key-lts.Need-mul-n (
-  current-crit-key-below t,
-  current-crit-key.Post,
-  load-reads.Asked,
-  load-reads.Learnt,
-) (current-crit-key-at t) current-crit-key.Post
-current-crit-key-mul-n t c = search needs
-
--- src/lib.rt:91:13
-current-crit-key-element-copy-out-n : (t : ℕ) → current-crit-key-lts.Need-element-copy-out-n (
-  current-crit-key-below t,
-  current-crit-key.Post,
-  load-reads.Asked,
-  load-reads.Learnt,
-) (current-crit-key-at t) current-crit-key.Post
-current-crit-key-element-copy-out-n t c = search needs
-
--- src/lib.rt:92:13
-current-crit-key-load-requires : (t : ℕ) → current-crit-key-lts.Need-load-requires (
-  current-crit-key-below t,
-  current-crit-key.Post,
-  load-reads.Asked,
-  load-reads.Learnt,
-) (current-crit-key-at t) current-crit-key.Post
-current-crit-key-load-requires t c κs = WayLaws.way-placed (c .before .before .before .before .before .pre .1) (c .before .before .before .before .before .args .level - 1) (omega arith)
-
--- src/lib.rt:95:14
-current-crit-key-mul-t11 : (t : ℕ) → current-crit-key-lts.Need-mul-t11 (
-  current-crit-key-below t,
-  current-crit-key.Post,
-  load-reads.Asked,
-  load-reads.Learnt,
-) (current-crit-key-at t) current-crit-key.Post
-current-crit-key-mul-t11 t c = omega (arith, WayLaws.way-small (c .before .before .before .before .before .before .pre .1) (c .before .before .before .before .before .before .args .level - 1) (omega arith))
-
--- src/lib.rt:95:14
-current-crit-key-array-read-t14 : (t : ℕ) → current-crit-key-lts.Need-array-read-t14 (
-  current-crit-key-below t,
-  current-crit-key.Post,
-  load-reads.Asked,
-  load-reads.Learnt,
-) (current-crit-key-at t) current-crit-key.Post
-current-crit-key-array-read-t14 t c = omega (arith, WayLaws.way-small (c .before .before .before .before .before .before .pre .1) (c .before .before .before .before .before .before .args .level - 1) (omega arith))
-
--- src/lib.rt:76:1
-current-crit-key-returns-3 : (t : ℕ) → current-crit-key-lts.Need-returns-3 (
-  current-crit-key-below t,
-  current-crit-key.Post,
-  load-reads.Asked,
-  load-reads.Learnt,
-) (current-crit-key-at t) current-crit-key.Post
-current-crit-key-returns-3 t c = LeftLaws.crit-here (c .before .before .before .before .before .before .pre .1) (c .before .before .before .before .before .before .args .level - 1) (omega arith) (c .load .result) _ _ (c .load .ensures) refl (c .before .before .if2 .left) refl refl
-
-pub +current-crit-key-spec : {M : Type 1} → statement M
-+current-crit-key-spec = close μ-current-crit-key λ t. current-crit-key-lts.spec (
+-- what the calls ask and give; those of itself, at a smaller measure
+abbrev claims : ℕ → current-crit-key-lts.Claims
+claims t = (
   current-crit-key-below t,
   current-crit-key.Post,
   load-reads.Asked,
   load-reads.Learnt,
 )
-    (current-crit-key-at t)
-    current-crit-key.Post
+
+current-crit-key-returns : (t : ℕ) → current-crit-key-lts.Need-returns (claims t) (current-crit-key-at t) current-crit-key.Post
+current-crit-key-returns t c = LeftLaws.crit-root (c .before .before .args .level) (omega arith)
+
+current-crit-key-sub-l : (t : ℕ) → current-crit-key-lts.Need-sub-l (claims t) (current-crit-key-at t) current-crit-key.Post
+current-crit-key-sub-l t c = search needs
+
+current-crit-key-mul-p : (t : ℕ) → current-crit-key-lts.Need-mul-p (claims t) (current-crit-key-at t) current-crit-key.Post
+current-crit-key-mul-p t c = search needs
+
+current-crit-key-element-copy-out-p : (t : ℕ) → current-crit-key-lts.Need-element-copy-out-p (claims t) (current-crit-key-at t) current-crit-key.Post
+current-crit-key-element-copy-out-p t c = search needs
+
+current-crit-key-cast-p : (t : ℕ) → current-crit-key-lts.Need-cast-p (claims t) (current-crit-key-at t) current-crit-key.Post
+current-crit-key-cast-p t c = search needs
+
+current-crit-key-current-crit-key-requires : (t : ℕ) → current-crit-key-lts.Need-current-crit-key-requires (claims t) (current-crit-key-at t) current-crit-key.Post
+current-crit-key-current-crit-key-requires t c κs = (omega arith, WayLaws.way-up (c .before .before .before .before .pre .1) (c .before .before .before .before .args .level - 1) (omega arith))
+
+current-crit-key-returns-2 : (t : ℕ) → current-crit-key-lts.Need-returns-2 (claims t) (current-crit-key-at t) current-crit-key.Post
+current-crit-key-returns-2 t c = LeftLaws.crit-up (c .before .before .before .before .before .pre .1) (c .before .before .before .before .before .args .level - 1) (omega arith) _ (c .current-crit-key .result) refl (c .before .if2 .taken) (c .current-crit-key .ensures)
+
+current-crit-key-mul-n : (t : ℕ) → current-crit-key-lts.Need-mul-n (claims t) (current-crit-key-at t) current-crit-key.Post
+current-crit-key-mul-n t c = search needs
+
+current-crit-key-element-copy-out-n : (t : ℕ) → current-crit-key-lts.Need-element-copy-out-n (claims t) (current-crit-key-at t) current-crit-key.Post
+current-crit-key-element-copy-out-n t c = search needs
+
+current-crit-key-load-requires : (t : ℕ) → current-crit-key-lts.Need-load-requires (claims t) (current-crit-key-at t) current-crit-key.Post
+current-crit-key-load-requires t c κs = WayLaws.way-placed (c .before .before .before .before .before .pre .1) (c .before .before .before .before .before .args .level - 1) (omega arith)
+
+current-crit-key-mul-t11 : (t : ℕ) → current-crit-key-lts.Need-mul-t11 (claims t) (current-crit-key-at t) current-crit-key.Post
+current-crit-key-mul-t11 t c = omega (arith, WayLaws.way-small (c .before .before .before .before .before .before .pre .1) (c .before .before .before .before .before .before .args .level - 1) (omega arith))
+
+current-crit-key-array-read-t14 : (t : ℕ) → current-crit-key-lts.Need-array-read-t14 (claims t) (current-crit-key-at t) current-crit-key.Post
+current-crit-key-array-read-t14 t c = omega (arith, WayLaws.way-small (c .before .before .before .before .before .before .pre .1) (c .before .before .before .before .before .before .args .level - 1) (omega arith))
+
+current-crit-key-returns-3 : (t : ℕ) → current-crit-key-lts.Need-returns-3 (claims t) (current-crit-key-at t) current-crit-key.Post
+current-crit-key-returns-3 t c = LeftLaws.crit-here (c .before .before .before .before .before .before .pre .1) (c .before .before .before .before .before .before .args .level - 1) (omega arith) (c .load .result) _ (c .load .ensures) refl (c .before .before .if2 .left)
+
+pub +current-crit-key-spec : {M : Type 1} → statement M
++current-crit-key-spec = close μ-current-crit-key λ t. current-crit-key-lts.spec (claims t) (current-crit-key-at t) current-crit-key.Post
     (current-crit-key-returns t)
     (current-crit-key-sub-l t)
     (current-crit-key-mul-p t)

@@ -34,231 +34,9 @@ update-right-crit-key-below t =
     (falls 1 update-right-crit-key-kinds.ps _<_ μ-update-right-crit-key t)
     update-right-crit-key.Pre
 
--- src/lib.rt:61:9
-update-right-crit-key-returns : (t : ℕ) → update-right-crit-key-lts.Need-returns (
-  load-reads.Asked,
-  load-reads.Learnt,
-  store-reads.Asked,
-  store-reads.Learnt,
-  update-right-crit-key-below t,
-  update-right-crit-key.Post,
-) (update-right-crit-key-at t) update-right-crit-key.Post
-update-right-crit-key-returns t c = RightLaws.key-root (c .before .before .args .key) (c .before .before .args .level) (omega arith)
-
--- src/lib.rt:63:13
-update-right-crit-key-sub-l : (t : ℕ) → update-right-crit-key-lts.Need-sub-l (
-  load-reads.Asked,
-  load-reads.Learnt,
-  store-reads.Asked,
-  store-reads.Learnt,
-  update-right-crit-key-below t,
-  update-right-crit-key.Post,
-) (update-right-crit-key-at t) update-right-crit-key.Post
-update-right-crit-key-sub-l t c = search needs
-
--- src/lib.rt:64:13
-update-right-crit-key-mul-n : (t : ℕ) → update-right-crit-key-lts.Need-mul-n (
-  load-reads.Asked,
-  load-reads.Learnt,
-  store-reads.Asked,
-  store-reads.Learnt,
-  update-right-crit-key-below t,
-  update-right-crit-key.Post,
-) (update-right-crit-key-at t) update-right-crit-key.Post
-update-right-crit-key-mul-n t c = search needs
-
--- src/lib.rt:64:13
-update-right-crit-key-element-copy-out-n :
-    (t : ℕ) → update-right-crit-key-lts.Need-element-copy-out-n (
-      load-reads.Asked,
-      load-reads.Learnt,
-      store-reads.Asked,
-      store-reads.Learnt,
-      update-right-crit-key-below t,
-      update-right-crit-key.Post,
-    ) (update-right-crit-key-at t) update-right-crit-key.Post
-update-right-crit-key-element-copy-out-n t c = search needs
-
--- src/lib.rt:65:13
-update-right-crit-key-mul-p : (t : ℕ) → update-right-crit-key-lts.Need-mul-p (
-  load-reads.Asked,
-  load-reads.Learnt,
-  store-reads.Asked,
-  store-reads.Learnt,
-  update-right-crit-key-below t,
-  update-right-crit-key.Post,
-) (update-right-crit-key-at t) update-right-crit-key.Post
-update-right-crit-key-mul-p t c = search needs
-
--- src/lib.rt:65:13
-update-right-crit-key-element-copy-out-p :
-    (t : ℕ) → update-right-crit-key-lts.Need-element-copy-out-p (
-      load-reads.Asked,
-      load-reads.Learnt,
-      store-reads.Asked,
-      store-reads.Learnt,
-      update-right-crit-key-below t,
-      update-right-crit-key.Post,
-    ) (update-right-crit-key-at t) update-right-crit-key.Post
-update-right-crit-key-element-copy-out-p t c = search needs
-
--- src/lib.rt:65:13
-update-right-crit-key-cast-p : (t : ℕ) → update-right-crit-key-lts.Need-cast-p (
-  load-reads.Asked,
-  load-reads.Learnt,
-  store-reads.Asked,
-  store-reads.Learnt,
-  update-right-crit-key-below t,
-  update-right-crit-key.Post,
-) (update-right-crit-key-at t) update-right-crit-key.Post
-update-right-crit-key-cast-p t c = search needs
-
--- src/lib.rt:66:17
-update-right-crit-key-load-requires : (t : ℕ) → update-right-crit-key-lts.Need-load-requires (
-  load-reads.Asked,
-  load-reads.Learnt,
-  store-reads.Asked,
-  store-reads.Learnt,
-  update-right-crit-key-below t,
-  update-right-crit-key.Post,
-) (update-right-crit-key-at t) update-right-crit-key.Post
-update-right-crit-key-load-requires t c κs = WayLaws.way-placed (c .before .before .before .before .before .pre .1) (c .before .before .before .before .before .args .level - 1) (omega arith)
-
--- src/lib.rt:67:8
-update-right-crit-key-add-if2 : (t : ℕ) → update-right-crit-key-lts.Need-add-if2 (
-  load-reads.Asked,
-  load-reads.Learnt,
-  store-reads.Asked,
-  store-reads.Learnt,
-  update-right-crit-key-below t,
-  update-right-crit-key.Post,
-) (update-right-crit-key-at t) update-right-crit-key.Post
-update-right-crit-key-add-if2 t c = omega (arith, WayLaws.way-small (c .before .before .before .before .before .before .pre .1) (c .before .before .before .before .before .before .args .level - 1) (omega arith))
-
--- src/lib.rt:67:17
-update-right-crit-key-array-read-if2 : (t : ℕ) → update-right-crit-key-lts.Need-array-read-if2 (
-  load-reads.Asked,
-  load-reads.Learnt,
-  store-reads.Asked,
-  store-reads.Learnt,
-  update-right-crit-key-below t,
-  update-right-crit-key.Post,
-) (update-right-crit-key-at t) update-right-crit-key.Post
-update-right-crit-key-array-read-if2 t c = search needs
-
--- src/lib.rt:67:17
-update-right-crit-key-cast-if2 : (t : ℕ) → update-right-crit-key-lts.Need-cast-if2 (
-  load-reads.Asked,
-  load-reads.Learnt,
-  store-reads.Asked,
-  store-reads.Learnt,
-  update-right-crit-key-below t,
-  update-right-crit-key.Post,
-) (update-right-crit-key-at t) update-right-crit-key.Post
-update-right-crit-key-cast-if2 t c = search needs
-
--- src/lib.rt:68:11
-update-right-crit-key-add-w : (t : ℕ) → update-right-crit-key-lts.Need-add-w (
-  load-reads.Asked,
-  load-reads.Learnt,
-  store-reads.Asked,
-  store-reads.Learnt,
-  update-right-crit-key-below t,
-  update-right-crit-key.Post,
-) (update-right-crit-key-at t) update-right-crit-key.Post
-update-right-crit-key-add-w t c = omega (arith, WayLaws.way-small (c .before .before .before .before .before .before .before .pre .1) (c .before .before .before .before .before .before .before .args .level - 1) (omega arith))
-
--- src/lib.rt:68:9
-update-right-crit-key-mul-w : (t : ℕ) → update-right-crit-key-lts.Need-mul-w (
-  load-reads.Asked,
-  load-reads.Learnt,
-  store-reads.Asked,
-  store-reads.Learnt,
-  update-right-crit-key-below t,
-  update-right-crit-key.Post,
-) (update-right-crit-key-at t) update-right-crit-key.Post
-update-right-crit-key-mul-w t c = omega (arith, WayLaws.way-small (c .before .before .before .before .before .before .before .pre .1) (c .before .before .before .before .before .before .before .args .level - 1) (omega arith))
-
--- src/lib.rt:68:9
-update-right-crit-key-array-write-w : (t : ℕ) → update-right-crit-key-lts.Need-array-write-w (
-  load-reads.Asked,
-  load-reads.Learnt,
-  store-reads.Asked,
-  store-reads.Learnt,
-  update-right-crit-key-below t,
-  update-right-crit-key.Post,
-) (update-right-crit-key-at t) update-right-crit-key.Post
-update-right-crit-key-array-write-w t c = omega (arith, WayLaws.way-small (c .before .before .before .before .before .before .before .pre .1) (c .before .before .before .before .before .before .before .args .level - 1) (omega arith))
-
--- src/lib.rt:69:9
-update-right-crit-key-store-requires : (t : ℕ) → update-right-crit-key-lts.Need-store-requires (
-  load-reads.Asked,
-  load-reads.Learnt,
-  store-reads.Asked,
-  store-reads.Learnt,
-  update-right-crit-key-below t,
-  update-right-crit-key.Post,
-) (update-right-crit-key-at t) update-right-crit-key.Post
-update-right-crit-key-store-requires t c κs = WayLaws.way-placed (c .before .before .before .before .before .before .before .before .pre .1) (c .before .before .before .before .before .before .before .before .args .level - 1) (omega arith)
-
--- src/lib.rt:70:9
-update-right-crit-key-same-length : (t : ℕ) → update-right-crit-key-lts.Need-same-length (
-  load-reads.Asked,
-  load-reads.Learnt,
-  store-reads.Asked,
-  store-reads.Learnt,
-  update-right-crit-key-below t,
-  update-right-crit-key.Post,
-) (update-right-crit-key-at t) update-right-crit-key.Post
-update-right-crit-key-same-length t c = search needs
-
--- src/lib.rt:70:9
-update-right-crit-key-returns-2 : (t : ℕ) → update-right-crit-key-lts.Need-returns-2 (
-  load-reads.Asked,
-  load-reads.Learnt,
-  store-reads.Asked,
-  store-reads.Learnt,
-  update-right-crit-key-below t,
-  update-right-crit-key.Post,
-) (update-right-crit-key-at t) update-right-crit-key.Post
-update-right-crit-key-returns-2 t c = RightLaws.key-here (c .before .before .before .before .before .before .before .before .before .before .before .pre .1) (c .before .before .before .before .before .before .before .before .before .before .before .args .level - 1) (omega arith) (c .before .before .before .before .before .load .result) _ _ (c .before .before .before .before .before .before .before .before .before .before .before .args .key) (c .before .before .before .before .before .load .ensures) refl (c .before .before .before .before .if2 .taken) (c .before .before .store .ensures)
-
--- src/lib.rt:72:5
-update-right-crit-key-update-right-crit-key-requires :
-    (t : ℕ) → update-right-crit-key-lts.Need-update-right-crit-key-requires (
-      load-reads.Asked,
-      load-reads.Learnt,
-      store-reads.Asked,
-      store-reads.Learnt,
-      update-right-crit-key-below t,
-      update-right-crit-key.Post,
-    ) (update-right-crit-key-at t) update-right-crit-key.Post
-update-right-crit-key-update-right-crit-key-requires t c κs = (omega arith, WayLaws.way-up (c .before .before .before .before .before .before .before .before .pre .1) (c .before .before .before .before .before .before .before .before .args .level - 1) (omega arith))
-
--- src/lib.rt:56:1
-update-right-crit-key-same-length-2 : (t : ℕ) → update-right-crit-key-lts.Need-same-length-2 (
-  load-reads.Asked,
-  load-reads.Learnt,
-  store-reads.Asked,
-  store-reads.Learnt,
-  update-right-crit-key-below t,
-  update-right-crit-key.Post,
-) (update-right-crit-key-at t) update-right-crit-key.Post
-update-right-crit-key-same-length-2 t c = search needs
-
--- src/lib.rt:56:1
-update-right-crit-key-returns-3 : (t : ℕ) → update-right-crit-key-lts.Need-returns-3 (
-  load-reads.Asked,
-  load-reads.Learnt,
-  store-reads.Asked,
-  store-reads.Learnt,
-  update-right-crit-key-below t,
-  update-right-crit-key.Post,
-) (update-right-crit-key-at t) update-right-crit-key.Post
-update-right-crit-key-returns-3 t c = RightLaws.key-up (c .before .before .before .before .before .before .before .before .before .before .before .pre .1) (c .before .before .before .before .before .before .before .before .before .before .before .args .level - 1) (omega arith) (c .before .before .before .before .before .load .result) _ _ (c .before .before .before .before .before .before .before .before .before .before .before .args .key) (c .before .before .before .before .before .load .ensures) refl (c .before .before .before .before .if2 .left) (c .before .before .update-right-crit-key .ensures)
-
-pub +update-right-crit-key-spec : {M : Type 1} → statement M
-+update-right-crit-key-spec = close μ-update-right-crit-key λ t. update-right-crit-key-lts.spec (
+-- what the calls ask and give; those of itself, at a smaller measure
+abbrev claims : ℕ → update-right-crit-key-lts.Claims
+claims t = (
   load-reads.Asked,
   load-reads.Learnt,
   store-reads.Asked,
@@ -266,8 +44,89 @@ pub +update-right-crit-key-spec : {M : Type 1} → statement M
   update-right-crit-key-below t,
   update-right-crit-key.Post,
 )
-    (update-right-crit-key-at t)
-    update-right-crit-key.Post
+
+-- src/lib.rt:61:9
+update-right-crit-key-returns : (t : ℕ) → update-right-crit-key-lts.Need-returns (claims t) (update-right-crit-key-at t) update-right-crit-key.Post
+update-right-crit-key-returns t c = RightLaws.key-root (c .before .before .args .key) (c .before .before .args .level) (omega arith)
+
+-- src/lib.rt:63:13
+update-right-crit-key-sub-l : (t : ℕ) → update-right-crit-key-lts.Need-sub-l (claims t) (update-right-crit-key-at t) update-right-crit-key.Post
+update-right-crit-key-sub-l t c = search needs
+
+-- src/lib.rt:64:13
+update-right-crit-key-mul-n : (t : ℕ) → update-right-crit-key-lts.Need-mul-n (claims t) (update-right-crit-key-at t) update-right-crit-key.Post
+update-right-crit-key-mul-n t c = search needs
+
+-- src/lib.rt:64:13
+update-right-crit-key-element-copy-out-n : (t : ℕ) → update-right-crit-key-lts.Need-element-copy-out-n (claims t) (update-right-crit-key-at t) update-right-crit-key.Post
+update-right-crit-key-element-copy-out-n t c = search needs
+
+-- src/lib.rt:65:13
+update-right-crit-key-mul-p : (t : ℕ) → update-right-crit-key-lts.Need-mul-p (claims t) (update-right-crit-key-at t) update-right-crit-key.Post
+update-right-crit-key-mul-p t c = search needs
+
+-- src/lib.rt:65:13
+update-right-crit-key-element-copy-out-p : (t : ℕ) → update-right-crit-key-lts.Need-element-copy-out-p (claims t) (update-right-crit-key-at t) update-right-crit-key.Post
+update-right-crit-key-element-copy-out-p t c = search needs
+
+-- src/lib.rt:65:13
+update-right-crit-key-cast-p : (t : ℕ) → update-right-crit-key-lts.Need-cast-p (claims t) (update-right-crit-key-at t) update-right-crit-key.Post
+update-right-crit-key-cast-p t c = search needs
+
+-- src/lib.rt:66:17
+update-right-crit-key-load-requires : (t : ℕ) → update-right-crit-key-lts.Need-load-requires (claims t) (update-right-crit-key-at t) update-right-crit-key.Post
+update-right-crit-key-load-requires t c κs = WayLaws.way-placed (c .before .before .before .before .before .pre .1) (c .before .before .before .before .before .args .level - 1) (omega arith)
+
+-- src/lib.rt:67:8
+update-right-crit-key-add-if2 : (t : ℕ) → update-right-crit-key-lts.Need-add-if2 (claims t) (update-right-crit-key-at t) update-right-crit-key.Post
+update-right-crit-key-add-if2 t c = omega (arith, WayLaws.way-small (c .before .before .before .before .before .before .pre .1) (c .before .before .before .before .before .before .args .level - 1) (omega arith))
+
+-- src/lib.rt:67:17
+update-right-crit-key-array-read-if2 : (t : ℕ) → update-right-crit-key-lts.Need-array-read-if2 (claims t) (update-right-crit-key-at t) update-right-crit-key.Post
+update-right-crit-key-array-read-if2 t c = search needs
+
+-- src/lib.rt:67:17
+update-right-crit-key-cast-if2 : (t : ℕ) → update-right-crit-key-lts.Need-cast-if2 (claims t) (update-right-crit-key-at t) update-right-crit-key.Post
+update-right-crit-key-cast-if2 t c = search needs
+
+-- src/lib.rt:68:11
+update-right-crit-key-add-w : (t : ℕ) → update-right-crit-key-lts.Need-add-w (claims t) (update-right-crit-key-at t) update-right-crit-key.Post
+update-right-crit-key-add-w t c = omega (arith, WayLaws.way-small (c .before .before .before .before .before .before .before .pre .1) (c .before .before .before .before .before .before .before .args .level - 1) (omega arith))
+
+-- src/lib.rt:68:9
+update-right-crit-key-mul-w : (t : ℕ) → update-right-crit-key-lts.Need-mul-w (claims t) (update-right-crit-key-at t) update-right-crit-key.Post
+update-right-crit-key-mul-w t c = omega (arith, WayLaws.way-small (c .before .before .before .before .before .before .before .pre .1) (c .before .before .before .before .before .before .before .args .level - 1) (omega arith))
+
+-- src/lib.rt:68:9
+update-right-crit-key-array-write-w : (t : ℕ) → update-right-crit-key-lts.Need-array-write-w (claims t) (update-right-crit-key-at t) update-right-crit-key.Post
+update-right-crit-key-array-write-w t c = omega (arith, WayLaws.way-small (c .before .before .before .before .before .before .before .pre .1) (c .before .before .before .before .before .before .before .args .level - 1) (omega arith))
+
+-- src/lib.rt:69:9
+update-right-crit-key-store-requires : (t : ℕ) → update-right-crit-key-lts.Need-store-requires (claims t) (update-right-crit-key-at t) update-right-crit-key.Post
+update-right-crit-key-store-requires t c κs = WayLaws.way-placed (c .before .before .before .before .before .before .before .before .pre .1) (c .before .before .before .before .before .before .before .before .args .level - 1) (omega arith)
+
+-- src/lib.rt:70:9
+update-right-crit-key-same-length : (t : ℕ) → update-right-crit-key-lts.Need-same-length (claims t) (update-right-crit-key-at t) update-right-crit-key.Post
+update-right-crit-key-same-length t c = search needs
+
+-- src/lib.rt:70:9
+update-right-crit-key-returns-2 : (t : ℕ) → update-right-crit-key-lts.Need-returns-2 (claims t) (update-right-crit-key-at t) update-right-crit-key.Post
+update-right-crit-key-returns-2 t c = RightLaws.key-here (c .before .before .before .before .before .before .before .before .before .before .before .pre .1) (c .before .before .before .before .before .before .before .before .before .before .before .args .level - 1) (omega arith) (c .before .before .before .before .before .load .result) _ _ (c .before .before .before .before .before .before .before .before .before .before .before .args .key) (c .before .before .before .before .before .load .ensures) refl (c .before .before .before .before .if2 .taken) (c .before .before .store .ensures)
+
+-- src/lib.rt:72:5
+update-right-crit-key-update-right-crit-key-requires : (t : ℕ) → update-right-crit-key-lts.Need-update-right-crit-key-requires (claims t) (update-right-crit-key-at t) update-right-crit-key.Post
+update-right-crit-key-update-right-crit-key-requires t c κs = (omega arith, WayLaws.way-up (c .before .before .before .before .before .before .before .before .pre .1) (c .before .before .before .before .before .before .before .before .args .level - 1) (omega arith))
+
+-- src/lib.rt:56:1
+update-right-crit-key-same-length-2 : (t : ℕ) → update-right-crit-key-lts.Need-same-length-2 (claims t) (update-right-crit-key-at t) update-right-crit-key.Post
+update-right-crit-key-same-length-2 t c = search needs
+
+-- src/lib.rt:56:1
+update-right-crit-key-returns-3 : (t : ℕ) → update-right-crit-key-lts.Need-returns-3 (claims t) (update-right-crit-key-at t) update-right-crit-key.Post
+update-right-crit-key-returns-3 t c = RightLaws.key-up (c .before .before .before .before .before .before .before .before .before .before .before .pre .1) (c .before .before .before .before .before .before .before .before .before .before .before .args .level - 1) (omega arith) (c .before .before .before .before .before .load .result) _ _ (c .before .before .before .before .before .before .before .before .before .before .before .args .key) (c .before .before .before .before .before .load .ensures) refl (c .before .before .before .before .if2 .left) (c .before .before .update-right-crit-key .ensures)
+
+pub +update-right-crit-key-spec : {M : Type 1} → statement M
++update-right-crit-key-spec = close μ-update-right-crit-key λ t. update-right-crit-key-lts.spec (claims t) (update-right-crit-key-at t) update-right-crit-key.Post
     (update-right-crit-key-returns t)
     (update-right-crit-key-sub-l t)
     (update-right-crit-key-mul-n t)

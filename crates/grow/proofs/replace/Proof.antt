@@ -1,112 +1,112 @@
 -- `grow::replace` meets its contract. Behind the last entry, at another key, at the key. Assumes nothing.
-use Prim.Native.Nat.{_-_}
+use native.Mathlib.Omega.{arith}
 use borrow.Author.Needs.{needs}
-use Rattle.grow.proofs.Landings
+use Rattle.grow.proofs.InPlace
 use Rattle.grow.proofs.Replacing
 use Rattle.grow.proofs.replace.Statement.{statement}
 use Rattle.grow.proofs.replace.Tie as tie
 
-cast-level : tie.Need-cast-level
-cast-level c = search needs
+mul-b : tie.Need-mul-b
+mul-b c = search needs
 
-sub-level : tie.Need-sub-level
-sub-level c = search needs
+add-b : tie.Need-add-b
+add-b c = search needs
 
-mul-n : tie.Need-mul-n
-mul-n c = search needs
+sub-b : tie.Need-sub-b
+sub-b c = search needs
 
-element-copy-out-n : tie.Need-element-copy-out-n
-element-copy-out-n c = search needs
+mul-if1 : tie.Need-mul-if1
+mul-if1 c = search needs
 
-mul-at : tie.Need-mul-at
-mul-at c = search needs
+slice-read-if1 : tie.Need-slice-read-if1
+slice-read-if1 c = search needs
 
-element-copy-out-at : tie.Need-element-copy-out-at
-element-copy-out-at c = search needs
+cast-if1 : tie.Need-cast-if1
+cast-if1 c =
+    let start = c .before in
+    omega (arith, InPlace.first-is (start .args .ws .now) (start .args .t) (start .args .n) (start .args .at) (start .pre), InPlace.few (start .args .ws .now) (start .args .t) (start .args .n) (start .args .at) (start .pre))
 
-cast-at : tie.Need-cast-at
-cast-at c = search needs
+add-if1 : tie.Need-add-if1
+add-if1 c = search needs
 
-load-requires : tie.Need-load-requires
-load-requires c κs =
+returns : tie.Need-returns
+returns c =
+    let start = c .before .before in
+    Replacing.miss-end (start .args .ws .now) (start .args .t) (start .args .n) (start .args .at) (start .pre) (start .args .key) (start .args .value) (c .if1 .taken)
+
+add-if2 : tie.Need-add-if2
+add-if2 c = search needs
+
+add-if2-2 : tie.Need-add-if2-2
+add-if2-2 c = search needs
+
+mul-if2 : tie.Need-mul-if2
+mul-if2 c = search needs
+
+slice-read-if2 : tie.Need-slice-read-if2
+slice-read-if2 c = search needs
+
+returns-2 : tie.Need-returns-2
+returns-2 c =
     let start = c .before .before .before .before in
-    Landings.load-leaf (start .args .ws .now) (start .args .t) (start .args .t3 .tree) (start .args .t3 .nodes) (start .args .t3 .places) (start .args .t3 .size - 1) (start .pre .1)
+    Replacing.miss-key (start .args .ws .now) (start .args .t) (start .args .n) (start .args .at) (start .pre) (start .args .key) (start .args .value) (c .before .before .if1 .left) (c .if2 .taken)
 
-entries-requires : tie.Need-entries-requires
-entries-requires c κs =
-    let start = c .before .before .before .before .before in
-    Replacing.word-asks (start .args .ws .now) (start .args .t) (start .args .t3 .tree) (start .args .t3 .nodes) (start .args .t3 .places) (start .args .t3 .size - 1) (c .load .result) (c .load .ensures) (start .pre .1 .scene) (start .pre .1 .entry) (start .pre .1 .land)
+add-earlier : tie.Need-add-earlier
+add-earlier c = search needs
+
+add-earlier-2 : tie.Need-add-earlier-2
+add-earlier-2 c = search needs
+
+mul-earlier : tie.Need-mul-earlier
+mul-earlier c = search needs
+
+slice-read-earlier : tie.Need-slice-read-earlier
+slice-read-earlier c = search needs
+
+add-ws : tie.Need-add-ws
+add-ws c = search needs
+
+add-ws-2 : tie.Need-add-ws-2
+add-ws-2 c = search needs
+
+mul-ws : tie.Need-mul-ws
+mul-ws c = search needs
+
+slice-write-ws : tie.Need-slice-write-ws
+slice-write-ws c = search needs
 
 same-length : tie.Need-same-length
 same-length c = search needs
 
-returns : tie.Need-returns
-returns c =
-    let start = c .before .before .before .before .before .before .before in
-    Replacing.miss-end (start .args .ws .now) (start .args .t) (start .args .t3 .tree) (start .args .t3 .nodes) (start .args .t3 .places) (start .args .t3 .size - 1) (c .before .before .load .result) (c .before .before .load .ensures) (start .args .key) (start .args .value) (c .before .entries .result) (c .before .entries .ensures) (c .if1 .taken)
-
-leaf-key-requires : tie.Need-leaf-key-requires
-leaf-key-requires c κs =
-    let start = c .before .before .before .before .before .before .before in
-    Replacing.place-asks (start .args .ws .now) (start .args .t) (start .args .t3 .tree) (start .args .t3 .nodes) (start .args .t3 .places) (start .args .t3 .size - 1) (c .before .before .load .result) (c .before .before .load .ensures) (start .pre .1 .scene) (start .pre .1 .entry) (start .pre .1 .land) (c .before .entries .result) (c .before .entries .ensures) (c .if1 .left)
-
-same-length-2 : tie.Need-same-length-2
-same-length-2 c = search needs
-
-returns-2 : tie.Need-returns-2
-returns-2 c =
-    let start = c .before .before .before .before .before .before .before .before .before in
-    Replacing.miss-key (start .args .ws .now) (start .args .t) (start .args .t3 .tree) (start .args .t3 .nodes) (start .args .t3 .places) (start .args .t3 .size - 1) (c .before .before .before .before .load .result) (c .before .before .before .before .load .ensures) (start .args .key) (start .args .value) (c .before .before .before .entries .result) (c .before .leaf-key .result) (c .before .before .before .entries .ensures) (c .before .before .if1 .left) (c .before .leaf-key .ensures) (c .if2 .taken)
-
-leaf-value-requires : tie.Need-leaf-value-requires
-leaf-value-requires c κs =
-    let start = c .before .before .before .before .before .before .before .before .before in
-    Replacing.place-asks (start .args .ws .now) (start .args .t) (start .args .t3 .tree) (start .args .t3 .nodes) (start .args .t3 .places) (start .args .t3 .size - 1) (c .before .before .before .before .load .result) (c .before .before .before .before .load .ensures) (start .pre .1 .scene) (start .pre .1 .entry) (start .pre .1 .land) (c .before .before .before .entries .result) (c .before .before .before .entries .ensures) (c .before .before .if1 .left)
-
-add-w : tie.Need-add-w
-add-w c = search needs
-
-mul-w : tie.Need-mul-w
-mul-w c = search needs
-
-array-write-w : tie.Need-array-write-w
-array-write-w c = search needs
-
-store-requires : tie.Need-store-requires
-store-requires c κs =
-    let start = c .before .before .before .before .before .before .before .before .before .before .before in
-    Landings.load-leaf (start .args .ws .now) (start .args .t) (start .args .t3 .tree) (start .args .t3 .nodes) (start .args .t3 .places) (start .args .t3 .size - 1) (start .pre .1)
-
-same-length-3 : tie.Need-same-length-3
-same-length-3 c = search needs
-
 returns-3 : tie.Need-returns-3
 returns-3 c =
-    let start = c .before .before .before .before .before .before .before .before .before .before .before .before .before .before in
-    Replacing.hit (start .args .ws .now) (start .args .t) (start .args .t3 .tree) (start .args .t3 .nodes) (start .args .t3 .places) (start .args .t3 .size - 1) (c .before .before .before .before .before .before .before .before .before .load .result) (c .before .before .before .before .before .before .before .before .before .load .ensures) (start .args .key) (start .args .value) (c .before .before .before .before .before .before .before .before .entries .result) (c .before .before .before .before .before .before .leaf-key .result) (c .before .before .before .before .leaf-value .result) (c .before .before .store .last .0) (c .before .before .before .before .before .before .before .before .entries .ensures) (c .before .before .before .before .before .before .before .if1 .left) (c .before .before .before .before .before .before .leaf-key .ensures) (c .before .before .before .before .before .if2 .left) (c .before .before .before .before .leaf-value .ensures) (c .before .before .store .ensures)
+    let start = c .before .before .before .before .before in
+    Replacing.hit (start .args .ws .now) (start .args .t) (start .args .n) (start .args .at) (start .pre) (start .args .key) (start .args .value) (c .before .before .before .if1 .left) (c .before .if2 .left)
 
 pub replace-spec : {M : Type 1} → statement M
 replace-spec =
     tie.close
     (tie.spec
-    cast-level
-    sub-level
-    mul-n
-    element-copy-out-n
-    mul-at
-    element-copy-out-at
-    cast-at
-    load-requires
-    entries-requires
-    same-length
+    mul-b
+    add-b
+    sub-b
+    mul-if1
+    slice-read-if1
+    cast-if1
+    add-if1
     returns
-    leaf-key-requires
-    same-length-2
+    add-if2
+    add-if2-2
+    mul-if2
+    slice-read-if2
     returns-2
-    leaf-value-requires
-    add-w
-    mul-w
-    array-write-w
-    store-requires
-    same-length-3
+    add-earlier
+    add-earlier-2
+    mul-earlier
+    slice-read-earlier
+    add-ws
+    add-ws-2
+    mul-ws
+    slice-write-ws
+    same-length
     returns-3)

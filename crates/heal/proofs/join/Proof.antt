@@ -1,4 +1,3 @@
-use Prim.Native.Nat.{_-_}
 use native.Mathlib.Omega.{arith}
 use mathlib.Core.Path.{refl}
 use Rattle.heal.specs.Cycle.{innerKind}
@@ -8,65 +7,48 @@ use Rattle.heal.proofs.InnerOps.{inner-law}
 use borrow.Author.Needs.{needs}
 use Rattle.heal.proofs.join.Statement.{statement}
 use Rattle.heal.proofs.join.Tie as tie
-use Rattle.node.proofs.inner_balance.Reads as inner-balance-reads
-use Rattle.pool.proofs.load.Reads as load-reads
-use Rattle.pool.proofs.store.Reads as store-reads
 
--- src/lib.rt:47:13
 mul-n : tie.Need-mul-n
 mul-n c = omega (arith, c .before .pre .heal .deep)
 
--- src/lib.rt:47:13
 element-copy-out-n : tie.Need-element-copy-out-n
 element-copy-out-n c = omega (arith, c .before .pre .heal .deep)
 
--- src/lib.rt:48:9
 load-requires : tie.Need-load-requires
 load-requires c κs = JoinLaws.here-placed innerKind inner-law InnerLaws.inner-length (c .before .before .before .pre .heal)
 
--- src/lib.rt:49:9
 load-requires-2 : tie.Need-load-requires-2
 load-requires-2 c κs = JoinLaws.mate-placed innerKind inner-law InnerLaws.inner-length (c .before .before .before .before .before .pre)
 
--- src/lib.rt:50:9
 inner-balance-requires : tie.Need-inner-balance-requires
 inner-balance-requires c κs = (InnerLaws.held-inner (JoinLaws.here innerKind inner-law InnerLaws.inner-length (c .before .before .before .before .before .before .pre .heal)) _ (JoinLaws.here-words innerKind inner-law InnerLaws.inner-length (c .before .before .before .before .before .before .pre .heal) _ (c .before .before .load .ensures)), InnerLaws.held-inner (JoinLaws.mate innerKind inner-law InnerLaws.inner-length (c .before .before .before .before .before .before .pre)) _ (JoinLaws.mate-words innerKind inner-law InnerLaws.inner-length (c .before .before .before .before .before .before .pre) _ (c .load2 .ensures)))
 
--- src/lib.rt:53:9
 store-requires : tie.Need-store-requires
 store-requires c κs = JoinLaws.mate-placed innerKind inner-law InnerLaws.inner-length (c .before .before .before .before .before .before .before .before .before .before .pre)
 
--- src/lib.rt:54:9
 hand-crit-key-requires : tie.Need-hand-crit-key-requires
-hand-crit-key-requires c κs = JoinLaws.way-gathered innerKind inner-law InnerLaws.inner-length (c .before .before .before .before .before .before .before .before .before .before .before .before .before .before .pre) _ _ (c .before .before .before .before .before .before .before .before .before .before .load .ensures) (c .before .before .before .before .before .before .before .before .load2 .ensures) _ (c .before .before .before .before .before .before .before .inner-balance .result) (c .before .before .before .before .before .before .before .inner-balance .ensures) (InnerLaws.both-length (c .before .before .before .before .before .before .before .before .before .before .load .result) (c .before .before .before .before .before .before .before .before .load2 .result) (c .before .before .before .before .before .before .before .before .before .before .before .before .before .before .args .near .key)) refl refl refl refl _ (c .before .before .before .store .ensures)
+hand-crit-key-requires c κs = JoinLaws.way-gathered innerKind inner-law InnerLaws.inner-length (c .before .before .before .before .before .before .before .before .before .before .before .before .before .before .pre) _ _ (c .before .before .before .before .before .before .before .before .before .before .load .ensures) (c .before .before .before .before .before .before .before .before .load2 .ensures) _ (c .before .before .before .before .before .before .before .inner-balance .result) (c .before .before .before .before .before .before .before .inner-balance .ensures) (InnerLaws.both-length (c .before .before .before .before .before .before .before .before .before .before .load .result) (c .before .before .before .before .before .before .before .before .load2 .result) (c .before .before .before .before .before .before .before .before .before .before .before .before .before .before .args .key)) refl refl refl refl _ (c .before .before .before .store .ensures)
 
--- src/lib.rt:55:9
 same-length : tie.Need-same-length
 same-length c = search needs
 
--- src/lib.rt:55:9
 returns : tie.Need-returns
-returns c = JoinLaws.joined-all innerKind inner-law InnerLaws.inner-length (c .before .before .before .before .before .before .before .before .before .before .before .before .before .before .before .before .before .pre) _ _ (c .before .before .before .before .before .before .before .before .before .before .before .before .before .load .ensures) (c .before .before .before .before .before .before .before .before .before .before .before .load2 .ensures) _ (c .before .before .before .before .before .before .before .before .before .before .inner-balance .result) (c .before .before .before .before .before .before .before .before .before .before .inner-balance .ensures) (InnerLaws.both-length (c .before .before .before .before .before .before .before .before .before .before .before .before .before .load .result) (c .before .before .before .before .before .before .before .before .before .before .before .load2 .result) (c .before .before .before .before .before .before .before .before .before .before .before .before .before .before .before .before .before .args .near .key)) refl refl refl refl _ (c .before .before .before .before .before .before .store .ensures) (c .before .before .before .before .before .before .before .before .if1 .taken) (c .before .before .hand-crit-key .ensures)
+returns c = JoinLaws.joined-all innerKind inner-law InnerLaws.inner-length (c .before .before .before .before .before .before .before .before .before .before .before .before .before .before .before .before .before .pre) _ _ (c .before .before .before .before .before .before .before .before .before .before .before .before .before .load .ensures) (c .before .before .before .before .before .before .before .before .before .before .before .load2 .ensures) _ (c .before .before .before .before .before .before .before .before .before .before .inner-balance .result) (c .before .before .before .before .before .before .before .before .before .before .inner-balance .ensures) (InnerLaws.both-length (c .before .before .before .before .before .before .before .before .before .before .before .before .before .load .result) (c .before .before .before .before .before .before .before .before .before .before .before .load2 .result) (c .before .before .before .before .before .before .before .before .before .before .before .before .before .before .before .before .before .args .key)) refl refl refl refl _ (c .before .before .before .before .before .before .store .ensures) (c .before .before .before .before .before .before .before .before .if1 .taken) (c .before .before .hand-crit-key .ensures)
 
--- src/lib.rt:58:5
 store-requires-2 : tie.Need-store-requires-2
 store-requires-2 c κs = JoinLaws.here-placed innerKind inner-law InnerLaws.inner-length (c .before .before .before .before .before .before .before .before .before .before .before .pre .heal)
 
--- src/lib.rt:59:5
 store-requires-3 : tie.Need-store-requires-3
-store-requires-3 c κs = JoinLaws.left-placed innerKind inner-law InnerLaws.inner-length (c .before .before .before .before .before .before .before .before .before .before .before .before .before .before .before .pre) _ _ (c .before .before .before .before .before .before .before .before .before .before .before .load .ensures) (c .before .before .before .before .before .before .before .before .before .load2 .ensures) _ (c .before .before .before .before .before .before .before .before .inner-balance .result) (c .before .before .before .before .before .before .before .before .inner-balance .ensures) (InnerLaws.both-length (c .before .before .before .before .before .before .before .before .before .before .before .load .result) (c .before .before .before .before .before .before .before .before .before .load2 .result) (c .before .before .before .before .before .before .before .before .before .before .before .before .before .before .before .args .near .key)) refl refl refl refl (c .before .before .before .before .before .before .if1 .left) _ _ (c .before .before .before .store2 .ensures) refl
+store-requires-3 c κs = JoinLaws.left-placed innerKind inner-law InnerLaws.inner-length (c .before .before .before .before .before .before .before .before .before .before .before .before .before .before .before .pre) _ _ (c .before .before .before .before .before .before .before .before .before .before .before .load .ensures) (c .before .before .before .before .before .before .before .before .before .load2 .ensures) _ (c .before .before .before .before .before .before .before .before .inner-balance .result) (c .before .before .before .before .before .before .before .before .inner-balance .ensures) (InnerLaws.both-length (c .before .before .before .before .before .before .before .before .before .before .before .load .result) (c .before .before .before .before .before .before .before .before .before .load2 .result) (c .before .before .before .before .before .before .before .before .before .before .before .before .before .before .before .args .key)) refl refl refl refl (c .before .before .before .before .before .before .if1 .left) _ _ (c .before .before .before .store2 .ensures) refl
 
--- src/lib.rt:60:5
 update-right-crit-key-requires : tie.Need-update-right-crit-key-requires
-update-right-crit-key-requires c κs = JoinLaws.way-shared innerKind inner-law InnerLaws.inner-length (c .before .before .before .before .before .before .before .before .before .before .before .before .before .before .before .before .before .before .before .pre) _ _ (c .before .before .before .before .before .before .before .before .before .before .before .before .before .before .before .load .ensures) (c .before .before .before .before .before .before .before .before .before .before .before .before .before .load2 .ensures) _ (c .before .before .before .before .before .before .before .before .before .before .before .before .inner-balance .result) (c .before .before .before .before .before .before .before .before .before .before .before .before .inner-balance .ensures) (InnerLaws.both-length (c .before .before .before .before .before .before .before .before .before .before .before .before .before .before .before .load .result) (c .before .before .before .before .before .before .before .before .before .before .before .before .before .load2 .result) (c .before .before .before .before .before .before .before .before .before .before .before .before .before .before .before .before .before .before .before .args .near .key)) refl refl refl refl (c .before .before .before .before .before .before .before .before .before .before .if1 .left) _ _ (c .before .before .before .before .before .before .before .store2 .ensures) (c .before .before .before .store3 .ensures)
+update-right-crit-key-requires c κs = JoinLaws.way-shared innerKind inner-law InnerLaws.inner-length (c .before .before .before .before .before .before .before .before .before .before .before .before .before .before .before .before .before .before .before .pre) _ _ (c .before .before .before .before .before .before .before .before .before .before .before .before .before .before .before .load .ensures) (c .before .before .before .before .before .before .before .before .before .before .before .before .before .load2 .ensures) _ (c .before .before .before .before .before .before .before .before .before .before .before .before .inner-balance .result) (c .before .before .before .before .before .before .before .before .before .before .before .before .inner-balance .ensures) (InnerLaws.both-length (c .before .before .before .before .before .before .before .before .before .before .before .before .before .before .before .load .result) (c .before .before .before .before .before .before .before .before .before .before .before .before .before .load2 .result) (c .before .before .before .before .before .before .before .before .before .before .before .before .before .before .before .before .before .before .before .args .key)) refl refl refl refl (c .before .before .before .before .before .before .before .before .before .before .if1 .left) _ _ (c .before .before .before .before .before .before .before .store2 .ensures) (c .before .before .before .store3 .ensures)
 
--- src/lib.rt:43:1
 same-length-2 : tie.Need-same-length-2
 same-length-2 c = search needs
 
--- src/lib.rt:43:1
 returns-2 : tie.Need-returns-2
-returns-2 c = JoinLaws.joined-some innerKind inner-law InnerLaws.inner-length (c .before .before .before .before .before .before .before .before .before .before .before .before .before .before .before .before .before .before .before .before .before .before .pre) _ _ (c .before .before .before .before .before .before .before .before .before .before .before .before .before .before .before .before .before .before .load .ensures) (c .before .before .before .before .before .before .before .before .before .before .before .before .before .before .before .before .load2 .ensures) _ (c .before .before .before .before .before .before .before .before .before .before .before .before .before .before .before .inner-balance .result) (c .before .before .before .before .before .before .before .before .before .before .before .before .before .before .before .inner-balance .ensures) (InnerLaws.both-length (c .before .before .before .before .before .before .before .before .before .before .before .before .before .before .before .before .before .before .load .result) (c .before .before .before .before .before .before .before .before .before .before .before .before .before .before .before .before .load2 .result) (c .before .before .before .before .before .before .before .before .before .before .before .before .before .before .before .before .before .before .before .before .before .before .args .near .key)) refl refl refl refl (c .before .before .before .before .before .before .before .before .before .before .before .before .before .if1 .left) _ _ (c .before .before .before .before .before .before .before .before .before .before .store2 .ensures) (c .before .before .before .before .before .before .store3 .ensures) (c .before .before .update-right-crit-key .ensures)
+returns-2 c = JoinLaws.joined-some innerKind inner-law InnerLaws.inner-length (c .before .before .before .before .before .before .before .before .before .before .before .before .before .before .before .before .before .before .before .before .before .before .pre) _ _ (c .before .before .before .before .before .before .before .before .before .before .before .before .before .before .before .before .before .before .load .ensures) (c .before .before .before .before .before .before .before .before .before .before .before .before .before .before .before .before .load2 .ensures) _ (c .before .before .before .before .before .before .before .before .before .before .before .before .before .before .before .inner-balance .result) (c .before .before .before .before .before .before .before .before .before .before .before .before .before .before .before .inner-balance .ensures) (InnerLaws.both-length (c .before .before .before .before .before .before .before .before .before .before .before .before .before .before .before .before .before .before .load .result) (c .before .before .before .before .before .before .before .before .before .before .before .before .before .before .before .before .load2 .result) (c .before .before .before .before .before .before .before .before .before .before .before .before .before .before .before .before .before .before .before .before .before .before .args .key)) refl refl refl refl (c .before .before .before .before .before .before .before .before .before .before .before .before .before .if1 .left) _ _ (c .before .before .before .before .before .before .before .before .before .before .store2 .ensures) (c .before .before .before .before .before .before .store3 .ensures) (c .before .before .update-right-crit-key .ensures)
 
 pub join-spec : {M : Type 1} → statement M
 join-spec =

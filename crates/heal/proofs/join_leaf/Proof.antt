@@ -1,4 +1,3 @@
-use Prim.Native.Nat.{_-_}
 use native.Mathlib.Omega.{arith}
 use mathlib.Core.Path.{refl}
 use Rattle.heal.specs.Cycle.{leafKind}
@@ -7,65 +6,48 @@ use Rattle.heal.proofs.LeafLaws
 use borrow.Author.Needs.{needs}
 use Rattle.heal.proofs.join_leaf.Statement.{statement}
 use Rattle.heal.proofs.join_leaf.Tie as tie
-use Rattle.node.proofs.leaf_balance.Reads as leaf-balance-reads
-use Rattle.pool.proofs.load.Reads as load-reads
-use Rattle.pool.proofs.store.Reads as store-reads
 
--- src/lib.rt:139:13
 mul-n : tie.Need-mul-n
-mul-n c = omega (arith, c .before .pre .heal .deep)
+mul-n c = omega (arith, c .before .pre .ask .heal .deep)
 
--- src/lib.rt:139:13
 element-copy-out-n : tie.Need-element-copy-out-n
-element-copy-out-n c = omega (arith, c .before .pre .heal .deep)
+element-copy-out-n c = omega (arith, c .before .pre .ask .heal .deep)
 
--- src/lib.rt:140:9
 load-requires : tie.Need-load-requires
-load-requires c κs = JoinLaws.here-placed leafKind LeafLaws.leaf-law LeafLaws.leaf-length (c .before .before .before .pre .heal)
+load-requires c κs = JoinLaws.here-placed leafKind LeafLaws.leaf-law LeafLaws.leaf-length (c .before .before .before .pre .ask .heal)
 
--- src/lib.rt:141:9
 load-requires-2 : tie.Need-load-requires-2
-load-requires-2 c κs = JoinLaws.mate-placed leafKind LeafLaws.leaf-law LeafLaws.leaf-length (c .before .before .before .before .before .pre)
+load-requires-2 c κs = JoinLaws.mate-placed leafKind LeafLaws.leaf-law LeafLaws.leaf-length (c .before .before .before .before .before .pre .ask)
 
--- src/lib.rt:142:9
 leaf-balance-requires : tie.Need-leaf-balance-requires
-leaf-balance-requires c κs = (LeafLaws.held-leaf (JoinLaws.here leafKind LeafLaws.leaf-law LeafLaws.leaf-length (c .before .before .before .before .before .before .pre .heal)) _ (JoinLaws.here-words leafKind LeafLaws.leaf-law LeafLaws.leaf-length (c .before .before .before .before .before .before .pre .heal) _ (c .before .before .load .ensures)), LeafLaws.held-leaf (JoinLaws.mate leafKind LeafLaws.leaf-law LeafLaws.leaf-length (c .before .before .before .before .before .before .pre)) _ (JoinLaws.mate-words leafKind LeafLaws.leaf-law LeafLaws.leaf-length (c .before .before .before .before .before .before .pre) _ (c .load2 .ensures)))
+leaf-balance-requires c κs = (LeafLaws.held-leaf (JoinLaws.here leafKind LeafLaws.leaf-law LeafLaws.leaf-length (c .before .before .before .before .before .before .pre .ask .heal)) _ (JoinLaws.here-words leafKind LeafLaws.leaf-law LeafLaws.leaf-length (c .before .before .before .before .before .before .pre .ask .heal) _ (c .before .before .load .ensures)), LeafLaws.held-leaf (JoinLaws.mate leafKind LeafLaws.leaf-law LeafLaws.leaf-length (c .before .before .before .before .before .before .pre .ask)) _ (JoinLaws.mate-words leafKind LeafLaws.leaf-law LeafLaws.leaf-length (c .before .before .before .before .before .before .pre .ask) _ (c .load2 .ensures)))
 
--- src/lib.rt:145:9
 store-requires : tie.Need-store-requires
-store-requires c κs = JoinLaws.mate-placed leafKind LeafLaws.leaf-law LeafLaws.leaf-length (c .before .before .before .before .before .before .before .before .before .before .pre)
+store-requires c κs = JoinLaws.mate-placed leafKind LeafLaws.leaf-law LeafLaws.leaf-length (c .before .before .before .before .before .before .before .before .before .before .pre .ask)
 
--- src/lib.rt:146:9
 hand-crit-key-requires : tie.Need-hand-crit-key-requires
-hand-crit-key-requires c κs = JoinLaws.way-gathered leafKind LeafLaws.leaf-law LeafLaws.leaf-length (c .before .before .before .before .before .before .before .before .before .before .before .before .before .before .pre) _ _ (c .before .before .before .before .before .before .before .before .before .before .load .ensures) (c .before .before .before .before .before .before .before .before .load2 .ensures) _ (c .before .before .before .before .before .before .before .leaf-balance .result) (c .before .before .before .before .before .before .before .leaf-balance .ensures) (LeafLaws.both-length (c .before .before .before .before .before .before .before .before .before .before .load .result) (c .before .before .before .before .before .before .before .before .load2 .result)) refl refl refl refl _ (c .before .before .before .store .ensures)
+hand-crit-key-requires c κs = JoinLaws.way-gathered leafKind LeafLaws.leaf-law LeafLaws.leaf-length (c .before .before .before .before .before .before .before .before .before .before .before .before .before .before .pre .ask) _ _ (c .before .before .before .before .before .before .before .before .before .before .load .ensures) (c .before .before .before .before .before .before .before .before .load2 .ensures) _ (c .before .before .before .before .before .before .before .leaf-balance .result) (c .before .before .before .before .before .before .before .leaf-balance .ensures) (LeafLaws.both-length (c .before .before .before .before .before .before .before .before .before .before .load .result) (c .before .before .before .before .before .before .before .before .load2 .result)) refl refl refl refl _ (c .before .before .before .store .ensures)
 
--- src/lib.rt:147:9
 same-length : tie.Need-same-length
 same-length c = search needs
 
--- src/lib.rt:147:9
 returns : tie.Need-returns
-returns c = JoinLaws.joined-all leafKind LeafLaws.leaf-law LeafLaws.leaf-length (c .before .before .before .before .before .before .before .before .before .before .before .before .before .before .before .before .before .pre) _ _ (c .before .before .before .before .before .before .before .before .before .before .before .before .before .load .ensures) (c .before .before .before .before .before .before .before .before .before .before .before .load2 .ensures) _ (c .before .before .before .before .before .before .before .before .before .before .leaf-balance .result) (c .before .before .before .before .before .before .before .before .before .before .leaf-balance .ensures) (LeafLaws.both-length (c .before .before .before .before .before .before .before .before .before .before .before .before .before .load .result) (c .before .before .before .before .before .before .before .before .before .before .before .load2 .result)) refl refl refl refl _ (c .before .before .before .before .before .before .store .ensures) (c .before .before .before .before .before .before .before .before .if1 .taken) (c .before .before .hand-crit-key .ensures)
+returns c = JoinLaws.joined-all leafKind LeafLaws.leaf-law LeafLaws.leaf-length (c .before .before .before .before .before .before .before .before .before .before .before .before .before .before .before .before .before .pre .ask) _ _ (c .before .before .before .before .before .before .before .before .before .before .before .before .before .load .ensures) (c .before .before .before .before .before .before .before .before .before .before .before .load2 .ensures) _ (c .before .before .before .before .before .before .before .before .before .before .leaf-balance .result) (c .before .before .before .before .before .before .before .before .before .before .leaf-balance .ensures) (LeafLaws.both-length (c .before .before .before .before .before .before .before .before .before .before .before .before .before .load .result) (c .before .before .before .before .before .before .before .before .before .before .before .load2 .result)) refl refl refl refl _ (c .before .before .before .before .before .before .store .ensures) (c .before .before .before .before .before .before .before .before .if1 .taken) (c .before .before .hand-crit-key .ensures)
 
--- src/lib.rt:150:5
 store-requires-2 : tie.Need-store-requires-2
-store-requires-2 c κs = JoinLaws.here-placed leafKind LeafLaws.leaf-law LeafLaws.leaf-length (c .before .before .before .before .before .before .before .before .before .before .before .pre .heal)
+store-requires-2 c κs = JoinLaws.here-placed leafKind LeafLaws.leaf-law LeafLaws.leaf-length (c .before .before .before .before .before .before .before .before .before .before .before .pre .ask .heal)
 
--- src/lib.rt:151:5
 store-requires-3 : tie.Need-store-requires-3
-store-requires-3 c κs = JoinLaws.left-placed leafKind LeafLaws.leaf-law LeafLaws.leaf-length (c .before .before .before .before .before .before .before .before .before .before .before .before .before .before .before .pre) _ _ (c .before .before .before .before .before .before .before .before .before .before .before .load .ensures) (c .before .before .before .before .before .before .before .before .before .load2 .ensures) _ (c .before .before .before .before .before .before .before .before .leaf-balance .result) (c .before .before .before .before .before .before .before .before .leaf-balance .ensures) (LeafLaws.both-length (c .before .before .before .before .before .before .before .before .before .before .before .load .result) (c .before .before .before .before .before .before .before .before .before .load2 .result)) refl refl refl refl (c .before .before .before .before .before .before .if1 .left) _ _ (c .before .before .before .store2 .ensures) refl
+store-requires-3 c κs = JoinLaws.left-placed leafKind LeafLaws.leaf-law LeafLaws.leaf-length (c .before .before .before .before .before .before .before .before .before .before .before .before .before .before .before .pre .ask) _ _ (c .before .before .before .before .before .before .before .before .before .before .before .load .ensures) (c .before .before .before .before .before .before .before .before .before .load2 .ensures) _ (c .before .before .before .before .before .before .before .before .leaf-balance .result) (c .before .before .before .before .before .before .before .before .leaf-balance .ensures) (LeafLaws.both-length (c .before .before .before .before .before .before .before .before .before .before .before .load .result) (c .before .before .before .before .before .before .before .before .before .load2 .result)) refl refl refl refl (c .before .before .before .before .before .before .if1 .left) _ _ (c .before .before .before .store2 .ensures) refl
 
--- src/lib.rt:152:5
 update-right-crit-key-requires : tie.Need-update-right-crit-key-requires
-update-right-crit-key-requires c κs = JoinLaws.way-shared leafKind LeafLaws.leaf-law LeafLaws.leaf-length (c .before .before .before .before .before .before .before .before .before .before .before .before .before .before .before .before .before .before .before .pre) _ _ (c .before .before .before .before .before .before .before .before .before .before .before .before .before .before .before .load .ensures) (c .before .before .before .before .before .before .before .before .before .before .before .before .before .load2 .ensures) _ (c .before .before .before .before .before .before .before .before .before .before .before .before .leaf-balance .result) (c .before .before .before .before .before .before .before .before .before .before .before .before .leaf-balance .ensures) (LeafLaws.both-length (c .before .before .before .before .before .before .before .before .before .before .before .before .before .before .before .load .result) (c .before .before .before .before .before .before .before .before .before .before .before .before .before .load2 .result)) refl refl refl refl (c .before .before .before .before .before .before .before .before .before .before .if1 .left) _ _ (c .before .before .before .before .before .before .before .store2 .ensures) (c .before .before .before .store3 .ensures)
+update-right-crit-key-requires c κs = JoinLaws.way-shared leafKind LeafLaws.leaf-law LeafLaws.leaf-length (c .before .before .before .before .before .before .before .before .before .before .before .before .before .before .before .before .before .before .before .pre .ask) _ _ (c .before .before .before .before .before .before .before .before .before .before .before .before .before .before .before .load .ensures) (c .before .before .before .before .before .before .before .before .before .before .before .before .before .load2 .ensures) _ (c .before .before .before .before .before .before .before .before .before .before .before .before .leaf-balance .result) (c .before .before .before .before .before .before .before .before .before .before .before .before .leaf-balance .ensures) (LeafLaws.both-length (c .before .before .before .before .before .before .before .before .before .before .before .before .before .before .before .load .result) (c .before .before .before .before .before .before .before .before .before .before .before .before .before .load2 .result)) refl refl refl refl (c .before .before .before .before .before .before .before .before .before .before .if1 .left) _ _ (c .before .before .before .before .before .before .before .store2 .ensures) (c .before .before .before .store3 .ensures)
 
--- src/lib.rt:135:1
 same-length-2 : tie.Need-same-length-2
 same-length-2 c = search needs
 
--- src/lib.rt:135:1
 returns-2 : tie.Need-returns-2
-returns-2 c = JoinLaws.joined-some leafKind LeafLaws.leaf-law LeafLaws.leaf-length (c .before .before .before .before .before .before .before .before .before .before .before .before .before .before .before .before .before .before .before .before .before .before .pre) _ _ (c .before .before .before .before .before .before .before .before .before .before .before .before .before .before .before .before .before .before .load .ensures) (c .before .before .before .before .before .before .before .before .before .before .before .before .before .before .before .before .load2 .ensures) _ (c .before .before .before .before .before .before .before .before .before .before .before .before .before .before .before .leaf-balance .result) (c .before .before .before .before .before .before .before .before .before .before .before .before .before .before .before .leaf-balance .ensures) (LeafLaws.both-length (c .before .before .before .before .before .before .before .before .before .before .before .before .before .before .before .before .before .before .load .result) (c .before .before .before .before .before .before .before .before .before .before .before .before .before .before .before .before .load2 .result)) refl refl refl refl (c .before .before .before .before .before .before .before .before .before .before .before .before .before .if1 .left) _ _ (c .before .before .before .before .before .before .before .before .before .before .store2 .ensures) (c .before .before .before .before .before .before .store3 .ensures) (c .before .before .update-right-crit-key .ensures)
+returns-2 c = JoinLaws.joined-some leafKind LeafLaws.leaf-law LeafLaws.leaf-length (c .before .before .before .before .before .before .before .before .before .before .before .before .before .before .before .before .before .before .before .before .before .before .pre .ask) _ _ (c .before .before .before .before .before .before .before .before .before .before .before .before .before .before .before .before .before .before .load .ensures) (c .before .before .before .before .before .before .before .before .before .before .before .before .before .before .before .before .load2 .ensures) _ (c .before .before .before .before .before .before .before .before .before .before .before .before .before .before .before .leaf-balance .result) (c .before .before .before .before .before .before .before .before .before .before .before .before .before .before .before .leaf-balance .ensures) (LeafLaws.both-length (c .before .before .before .before .before .before .before .before .before .before .before .before .before .before .before .before .before .before .load .result) (c .before .before .before .before .before .before .before .before .before .before .before .before .before .before .before .before .load2 .result)) refl refl refl refl (c .before .before .before .before .before .before .before .before .before .before .before .before .before .if1 .left) _ _ (c .before .before .before .before .before .before .before .before .before .before .store2 .ensures) (c .before .before .before .before .before .before .store3 .ensures) (c .before .before .update-right-crit-key .ensures)
 
 pub join-leaf-spec : {M : Type 1} → statement M
 join-leaf-spec =

@@ -1,10 +1,11 @@
-use mathlib.Core.Path.{sym}
+use mathlib.Core.Path.{sym, _∙_}
+use native.Mathlib.Omega.{arith}
 use Rattle.forest.specs.Pools.{remove}
-use Rattle.forest.specs.Cursors.{seek}
-use Rattle.path.proofs.Made.{fits-seek, gone-ready, gone-standing}
+use Rattle.path.proofs.Roots.{root-place}
+use Rattle.path.proofs.Foots.{ends-in, ends-looks}
 use Rattle.map.proofs.Gating.{held-other}
 use Rattle.map.proofs.Promising.{closed-calls}
-use Rattle.map.proofs.Removing.{held-nothing, ask-found, removed-calls, absent-calls}
+use Rattle.map.proofs.Removing.{held-nothing, removed-calls, absent-calls, empty-calls, root-some, place-few, ask-key}
 use borrow.Author.Needs.{needs}
 use Rattle.map.proofs.sound_remove.Statement.{statement}
 use Rattle.map.proofs.sound_remove.Tie as tie
@@ -18,15 +19,32 @@ enum-known-why c = search needs
 enum-known-t : tie.Need-enum-known-t
 enum-known-t c = search needs
 
-find-requires : tie.Need-find-requires
-find-requires c κs = c .before .before .before .before .gate .ensures .passes (c .before .before .t .given .0 .0) (cc)
+root-requires : tie.Need-root-requires
+root-requires c κs =
+    let y = c .before .before .before .before .gate .ensures .passes (c .before .before .t .given .0 .0) (cc) in
+    omega (arith, root-place (c .before .before .before .before .before .before .before .args .ws .now) _ (c .before .before .before .before .before .before .before .args .tree) y)
 
-look-at-requires : tie.Need-look-at-requires
-look-at-requires c κs =
-    let start = c .before .before .before .before .before .before .before .before .before in
-    let a = start .args in
+same-length : tie.Need-same-length
+same-length c = search needs
+
+returns : tie.Need-returns
+returns c =
+    let a = c .before .before .before .before .before .before .before .before .before .args in
     let y = c .before .before .before .before .before .before .gate .ensures .passes (c .before .before .before .before .t .given .0 .0) (cc) in
-    (gone-ready (seek (a .key)) (fits-seek (a .key)) (a .ws .now) _ (a .tree) _ y (c .before .find .ensures), gone-standing (seek (a .key)) (fits-seek (a .key)) (a .ws .now) _ (a .tree) _ y (c .before .find .ensures))
+    empty-calls (a .ws .now) _ (a .tree) (a .key) _ y (c .before .root .ensures) (c .if1 .taken)
+
+find-leaf-requires : tie.Need-find-leaf-requires
+find-leaf-requires c κs =
+    let a = c .before .before .before .before .before .before .before .before .before .before .args in
+    let y = c .before .before .before .before .before .before .before .gate .ensures .passes (c .before .before .before .before .before .t .given .0 .0) (cc) in
+    (y, root-some (a .ws .now) _ (a .tree) (a .key) _ y (c .before .before .root .ensures) (c .before .if1 .left))
+
+look-in-requires : tie.Need-look-in-requires
+look-in-requires c κs =
+    let a = c .before .before .before .before .before .before .before .before .before .before .before .before .args in
+    let y = c .before .before .before .before .before .before .before .before .before .gate .ensures .passes (c .before .before .before .before .before .before .before .t .given .0 .0) (cc) in
+    let d = c .before .find-leaf .ensures in
+    (ends-in (a .ws .now) _ (a .tree) y (a .key) _ _ d, place-few (a .ws .now) _ (a .tree) (a .key) _ _ y d)
 
 enum-known-look : tie.Need-enum-known-look
 enum-known-look c = search needs
@@ -34,51 +52,50 @@ enum-known-look c = search needs
 enum-told : tie.Need-enum-told
 enum-told c = search needs
 
-same-length : tie.Need-same-length
-same-length c = search needs
-
-returns : tie.Need-returns
-returns c =
-    let start = c .before .before .before .before .before .before .before .before .before .before .before .before in
-    let a = start .args in
-    let y = c .before .before .before .before .before .before .before .before .before .gate .ensures .passes (c .before .before .before .before .before .before .before .t .given .0 .0) (cc) in
-    absent-calls (a .ws .now) _ (a .tree) (a .key) y _ (c .before .before .before .before .find .ensures) _ (c .before .before .look-at .ensures) (held-nothing _ _ (c .enum-told .given .1))
-
 same-length-2 : tie.Need-same-length-2
 same-length-2 c = search needs
 
 returns-2 : tie.Need-returns-2
 returns-2 c =
-    let start = c .before .before .before .before .before .before .before .before .before .before .before .before .before .before in
-    let a = start .args in
-    let y = c .before .before .before .before .before .before .before .before .before .before .before .gate .ensures .passes (c .before .before .before .before .before .before .before .before .before .t .given .0 .0) (cc) in
-    absent-calls (a .ws .now) _ (a .tree) (a .key) y _ (c .before .before .before .before .before .before .find .ensures) _ (c .before .before .before .before .look-at .ensures) (sym (held-other _ _ _ _ (c .before .before .look .given .1) (c .if1 .taken)))
-
-remove-requires : tie.Need-remove-requires
-remove-requires c κs =
-    let start = c .before .before .before .before .before .before .before .before .before .before .before .before .before .before .before in
-    let a = start .args in
+    let a = c .before .before .before .before .before .before .before .before .before .before .before .before .before .before .before .args in
     let y = c .before .before .before .before .before .before .before .before .before .before .before .before .gate .ensures .passes (c .before .before .before .before .before .before .before .before .before .before .t .given .0 .0) (cc) in
-    ask-found (a .ws .now) _ (a .tree) (a .key) y _ (c .before .before .before .before .before .before .before .find .ensures) _ (c .before .before .before .before .before .look-at .ensures) _ _ (c .before .before .before .look .given .1)
+    let o = ends-looks (a .ws .now) _ (a .tree) y (a .key) _ _ (c .before .before .before .before .find-leaf .ensures) in
+    absent-calls (a .ws .now) _ (a .tree) (a .key) y _ o (held-nothing _ _ (sym (c .before .before .look-in .ensures) ∙ c .enum-told .given .1))
 
 same-length-3 : tie.Need-same-length-3
 same-length-3 c = search needs
 
 returns-3 : tie.Need-returns-3
 returns-3 c =
-    let start = c .before .before .before .before .before .before in
-    let a = start .args in
-    closed-calls (remove (a .tree) (a .key)) (a .ws .now) (c .before .why .given .0 .0) (c .before .before .before .gate .ensures .shut (c .before .why .given .0 .0) (cc))
+    let a = c .before .before .before .before .before .before .before .before .before .before .before .before .before .before .before .before .before .args in
+    let y = c .before .before .before .before .before .before .before .before .before .before .before .before .before .before .gate .ensures .passes (c .before .before .before .before .before .before .before .before .before .before .before .before .t .given .0 .0) (cc) in
+    let o = ends-looks (a .ws .now) _ (a .tree) y (a .key) _ _ (c .before .before .before .before .before .before .find-leaf .ensures) in
+    absent-calls (a .ws .now) _ (a .tree) (a .key) y _ o (sym (held-other _ _ _ _ (sym (c .before .before .before .before .look-in .ensures) ∙ c .before .before .look .given .1) (c .if2 .taken)))
+
+remove-key-requires : tie.Need-remove-key-requires
+remove-key-requires c κs =
+    let a = c .before .before .before .before .before .before .before .before .before .before .before .before .before .before .before .before .before .before .args in
+    let y = c .before .before .before .before .before .before .before .before .before .before .before .before .before .before .before .gate .ensures .passes (c .before .before .before .before .before .before .before .before .before .before .before .before .before .t .given .0 .0) (cc) in
+    ask-key (a .ws .now) _ (a .tree) (a .key) _ _ y (c .before .before .before .before .before .before .before .find-leaf .ensures) _ _ (sym (c .before .before .before .before .before .look-in .ensures) ∙ c .before .before .before .look .given .1)
 
 same-length-4 : tie.Need-same-length-4
 same-length-4 c = search needs
 
 returns-4 : tie.Need-returns-4
 returns-4 c =
-    let start = c .before .before .before .before .before .before .before .before .before .before .before .before .before .before .before .before .before .before in
+    let start = c .before .before .before .before .before .before in
     let a = start .args in
-    let y = c .before .before .before .before .before .before .before .before .before .before .before .before .before .before .before .gate .ensures .passes (c .before .before .before .before .before .before .before .before .before .before .before .before .before .t .given .0 .0) (cc) in
-    removed-calls (a .ws .now) _ (a .tree) (a .key) y _ (c .before .before .before .before .before .before .before .before .before .before .find .ensures) _ (c .before .before .before .before .before .before .before .before .look-at .ensures) _ _ (c .before .before .before .before .before .before .look .given .1) (c .before .before .before .before .if1 .left) _ _ (c .before .before .remove .ensures)
+    closed-calls (remove (a .tree) (a .key)) (a .ws .now) (c .before .why .given .0 .0) (c .before .before .before .gate .ensures .shut (c .before .why .given .0 .0) (cc))
+
+same-length-5 : tie.Need-same-length-5
+same-length-5 c = search needs
+
+returns-5 : tie.Need-returns-5
+returns-5 c =
+    let a = c .before .before .before .before .before .before .before .before .before .before .before .before .before .before .before .before .before .before .before .before .before .args in
+    let y = c .before .before .before .before .before .before .before .before .before .before .before .before .before .before .before .before .before .before .gate .ensures .passes (c .before .before .before .before .before .before .before .before .before .before .before .before .before .before .before .before .t .given .0 .0) (cc) in
+    let o = ends-looks (a .ws .now) _ (a .tree) y (a .key) _ _ (c .before .before .before .before .before .before .before .before .before .before .find-leaf .ensures) in
+    removed-calls (a .ws .now) _ (a .tree) (a .key) y _ o _ _ (sym (c .before .before .before .before .before .before .before .before .look-in .ensures) ∙ c .before .before .before .before .before .before .look .given .1) (c .before .before .before .before .if2 .left) _ (c .before .before .remove-key .ensures)
 
 pub sound-remove-spec : {M : Type 1} → statement M
 sound-remove-spec =
@@ -87,16 +104,19 @@ sound-remove-spec =
     gate-requires
     enum-known-why
     enum-known-t
-    find-requires
-    look-at-requires
-    enum-known-look
-    enum-told
+    root-requires
     same-length
     returns
+    find-leaf-requires
+    look-in-requires
+    enum-known-look
+    enum-told
     same-length-2
     returns-2
-    remove-requires
     same-length-3
     returns-3
+    remove-key-requires
     same-length-4
-    returns-4)
+    returns-4
+    same-length-5
+    returns-5)

@@ -1,4 +1,4 @@
-use Prim.Native.Nat.{_-_}
+use Rattle.path.specs.declared.Branch.the-variants as branch
 use Rattle.moves.proofs.Looking.{first-none, first-inside, first-front}
 use borrow.Author.Needs.{needs}
 use Rattle.moves.proofs.at_first_entry.Statement.{statement}
@@ -28,8 +28,17 @@ sub-left-sibling-branch-level c = search needs
 left-sibling-branch-level-requires : tie.Need-left-sibling-branch-level-requires
 left-sibling-branch-level-requires c κs = search needs
 
+enum-told : tie.Need-enum-told
+enum-told c = search needs
+
+enum-told-2 : tie.Need-enum-told-2
+enum-told-2 c = search needs
+
 returns-3 : tie.Need-returns-3
-returns-3 c = first-front (c .before .before .before .before .args .t1) (c .before .before .before .if1 .left) _ (c .before .if2 .left) (c .left-sibling-branch-level .ensures)
+returns-3 c = first-front (c .before .before .before .before .before .before .args .t1) (c .before .before .before .before .before .if1 .left) (branch.At (c .enum-told .given .0 .0)) (c .before .before .before .if2 .left) (cc)
+
+returns-4 : tie.Need-returns-4
+returns-4 c = first-front (c .before .before .before .before .before .before .args .t1) (c .before .before .before .before .before .if1 .left) branch.Nothing (c .before .before .before .if2 .left) (cc)
 
 pub at-first-entry-spec : {M : Type 1} → statement M
 at-first-entry-spec =
@@ -43,4 +52,7 @@ at-first-entry-spec =
     returns-2
     sub-left-sibling-branch-level
     left-sibling-branch-level-requires
-    returns-3)
+    enum-told
+    enum-told-2
+    returns-3
+    returns-4)

@@ -1,6 +1,5 @@
-use Prim.Native.Nat.{_-_}
 use native.Mathlib.Omega.{arith}
-use Rattle.moves.proofs.Neighbours.{level, safe, right-level, next-none, next-some}
+use Rattle.moves.proofs.Neighbours.{safe, right-level, next-none, next-some}
 use borrow.Author.Needs.{needs}
 use Rattle.moves.proofs.next_node.Statement.{statement}
 use Rattle.moves.proofs.next_node.Tie as tie
@@ -17,29 +16,33 @@ right-sibling-branch-level-requires c κs =
     let a = start .args in
     safe (a .ws .now) (a .t) (a .t3) (start .pre .0) (start .pre .1 .0) (start .pre .1 .1)
 
+enum-known-l : tie.Need-enum-known-l
+enum-known-l c = search needs
+
+enum-told : tie.Need-enum-told
+enum-told c = search needs
+
 off-end-requires : tie.Need-off-end-requires
 off-end-requires c κs = search needs
 
 returns : tie.Need-returns
 returns c =
-    let start = c .before .before .before .before in
+    let start = c .before .before .before .before .before in
     let a = start .args in
-    next-none (a .ws .now) (a .t) (a .t3) (start .pre .0) (start .pre .1 .1) (c .before .before .right-sibling-branch-level .result) _ (c .before .before .right-sibling-branch-level .ensures) (c .before .if1 .taken) (c .off-end .ensures)
+    next-none (a .ws .now) (a .t) (a .t3) (start .pre .0) (start .pre .1 .1) _ (cc) (c .off-end .ensures)
 
 mul-place : tie.Need-mul-place
 mul-place c =
-    let start = c .before .before .before in
+    let start = c .before .before .before .before .before in
     let a = start .args in
-    let b = right-level (a .ws .now) (a .t) (a .t3) (c .before .right-sibling-branch-level .result) (c .if1 .left) (c .before .right-sibling-branch-level .ensures) in
-    let v = level (a .ws .now) (a .t) (a .t3) (start .pre .0) (start .pre .1 .0) (start .pre .1 .1) (c .before .right-sibling-branch-level .result) (b .0) in
+    let v = right-level (a .ws .now) (a .t) (a .t3) (start .pre .0) (start .pre .1 .0) (start .pre .1 .1) (c .before .l .given .0 .0) (cc) in
     omega arith
 
 element-copy-out-place : tie.Need-element-copy-out-place
 element-copy-out-place c =
-    let start = c .before .before .before in
+    let start = c .before .before .before .before .before in
     let a = start .args in
-    let b = right-level (a .ws .now) (a .t) (a .t3) (c .before .right-sibling-branch-level .result) (c .if1 .left) (c .before .right-sibling-branch-level .ensures) in
-    let v = level (a .ws .now) (a .t) (a .t3) (start .pre .0) (start .pre .1 .0) (start .pre .1 .1) (c .before .right-sibling-branch-level .result) (b .0) in
+    let v = right-level (a .ws .now) (a .t) (a .t3) (start .pre .0) (start .pre .1 .0) (start .pre .1 .1) (c .before .l .given .0 .0) (cc) in
     omega arith
 
 cast-place : tie.Need-cast-place
@@ -47,27 +50,24 @@ cast-place c = search needs
 
 add-place : tie.Need-add-place
 add-place c =
-    let start = c .before .before .before .before in
+    let start = c .before .before .before .before .before .before in
     let a = start .args in
-    let b = right-level (a .ws .now) (a .t) (a .t3) (c .before .before .right-sibling-branch-level .result) (c .before .if1 .left) (c .before .before .right-sibling-branch-level .ensures) in
-    let v = level (a .ws .now) (a .t) (a .t3) (start .pre .0) (start .pre .1 .0) (start .pre .1 .1) (c .before .before .right-sibling-branch-level .result) (b .0) in
+    let v = right-level (a .ws .now) (a .t) (a .t3) (start .pre .0) (start .pre .1 .0) (start .pre .1 .1) (c .before .before .l .given .0 .0) (cc) in
     omega arith
 
 branch-off-requires : tie.Need-branch-off-requires
 branch-off-requires c κs =
-    let start = c .before .before .before .before in
+    let start = c .before .before .before .before .before .before in
     let a = start .args in
-    let b = right-level (a .ws .now) (a .t) (a .t3) (c .before .before .right-sibling-branch-level .result) (c .before .if1 .left) (c .before .before .right-sibling-branch-level .ensures) in
-    let v = level (a .ws .now) (a .t) (a .t3) (start .pre .0) (start .pre .1 .0) (start .pre .1 .1) (c .before .before .right-sibling-branch-level .result) (b .0) in
-    (v, omega arith)
+    let v = right-level (a .ws .now) (a .t) (a .t3) (start .pre .0) (start .pre .1 .0) (start .pre .1 .1) (c .before .before .l .given .0 .0) (cc) in
+    (v .0, omega arith)
 
 returns-2 : tie.Need-returns-2
 returns-2 c =
-    let start = c .before .before .before .before .before in
+    let start = c .before .before .before .before .before .before .before in
     let a = start .args in
-    let b = right-level (a .ws .now) (a .t) (a .t3) (c .before .before .before .right-sibling-branch-level .result) (c .before .before .if1 .left) (c .before .before .before .right-sibling-branch-level .ensures) in
-    let v = level (a .ws .now) (a .t) (a .t3) (start .pre .0) (start .pre .1 .0) (start .pre .1 .1) (c .before .before .before .right-sibling-branch-level .result) (b .0) in
-    next-some (a .ws .now) (a .t) (a .t3) (start .pre .0) (start .pre .1 .1) (c .before .before .before .right-sibling-branch-level .result) _ (c .before .before .before .right-sibling-branch-level .ensures) (c .before .before .if1 .left) (omega arith) (c .branch-off .ensures)
+    let v = right-level (a .ws .now) (a .t) (a .t3) (start .pre .0) (start .pre .1 .0) (start .pre .1 .1) (c .before .before .before .l .given .0 .0) (cc) in
+    next-some (a .ws .now) (a .t) (a .t3) (start .pre .0) (start .pre .1 .1) (c .before .before .before .l .given .0 .0) _ (cc) (omega arith) (c .branch-off .ensures)
 
 pub next-node-spec : {M : Type 1} → statement M
 next-node-spec =
@@ -76,6 +76,8 @@ next-node-spec =
     cast-size
     sub-right-sibling-branch-level
     right-sibling-branch-level-requires
+    enum-known-l
+    enum-told
     off-end-requires
     returns
     mul-place

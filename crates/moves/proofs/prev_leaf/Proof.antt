@@ -1,6 +1,5 @@
-use Prim.Native.Nat.{_-_}
 use native.Mathlib.Omega.{arith}
-use Rattle.moves.proofs.Neighbours.{size-few, level, left-level, prev-none, prev-some}
+use Rattle.moves.proofs.Neighbours.{size-few, left-level, prev-none, prev-some}
 use borrow.Author.Needs.{needs}
 use Rattle.moves.proofs.prev_leaf.Statement.{statement}
 use Rattle.moves.proofs.prev_leaf.Tie as tie
@@ -17,26 +16,30 @@ left-sibling-branch-level-requires c κs =
     let a = start .args in
     omega (arith, size-few (a .ws .now) (a .t) (a .t3) (start .pre .0) (start .pre .1 .0) (start .pre .1 .1))
 
+enum-known-l : tie.Need-enum-known-l
+enum-known-l c = search needs
+
+enum-told : tie.Need-enum-told
+enum-told c = search needs
+
 returns : tie.Need-returns
 returns c =
-    let start = c .before .before .before in
+    let start = c .before .before .before .before in
     let a = start .args in
-    prev-none (a .ws .now) (a .t) (a .t3) (start .pre .0) (start .pre .1 .1) (c .before .left-sibling-branch-level .result) (c .before .left-sibling-branch-level .ensures) (c .if1 .taken)
+    prev-none (a .ws .now) (a .t) (a .t3) (start .pre .0) (start .pre .1 .1) (cc)
 
 mul-place : tie.Need-mul-place
 mul-place c =
-    let start = c .before .before .before in
+    let start = c .before .before .before .before .before in
     let a = start .args in
-    let b = left-level (a .ws .now) (a .t) (a .t3) (c .before .left-sibling-branch-level .result) (c .if1 .left) (c .before .left-sibling-branch-level .ensures) in
-    let v = level (a .ws .now) (a .t) (a .t3) (start .pre .0) (start .pre .1 .0) (start .pre .1 .1) (c .before .left-sibling-branch-level .result) (b .0) in
+    let v = left-level (a .ws .now) (a .t) (a .t3) (start .pre .0) (start .pre .1 .0) (start .pre .1 .1) (c .before .l .given .0 .0) (cc) in
     omega arith
 
 element-copy-out-place : tie.Need-element-copy-out-place
 element-copy-out-place c =
-    let start = c .before .before .before in
+    let start = c .before .before .before .before .before in
     let a = start .args in
-    let b = left-level (a .ws .now) (a .t) (a .t3) (c .before .left-sibling-branch-level .result) (c .if1 .left) (c .before .left-sibling-branch-level .ensures) in
-    let v = level (a .ws .now) (a .t) (a .t3) (start .pre .0) (start .pre .1 .0) (start .pre .1 .1) (c .before .left-sibling-branch-level .result) (b .0) in
+    let v = left-level (a .ws .now) (a .t) (a .t3) (start .pre .0) (start .pre .1 .0) (start .pre .1 .1) (c .before .l .given .0 .0) (cc) in
     omega arith
 
 cast-place : tie.Need-cast-place
@@ -44,27 +47,24 @@ cast-place c = search needs
 
 sub-place : tie.Need-sub-place
 sub-place c =
-    let start = c .before .before .before .before in
+    let start = c .before .before .before .before .before .before in
     let a = start .args in
-    let b = left-level (a .ws .now) (a .t) (a .t3) (c .before .before .left-sibling-branch-level .result) (c .before .if1 .left) (c .before .before .left-sibling-branch-level .ensures) in
-    let v = level (a .ws .now) (a .t) (a .t3) (start .pre .0) (start .pre .1 .0) (start .pre .1 .1) (c .before .before .left-sibling-branch-level .result) (b .0) in
+    let v = left-level (a .ws .now) (a .t) (a .t3) (start .pre .0) (start .pre .1 .0) (start .pre .1 .1) (c .before .before .l .given .0 .0) (cc) in
     omega arith
 
 branch-off-requires : tie.Need-branch-off-requires
 branch-off-requires c κs =
-    let start = c .before .before .before .before in
+    let start = c .before .before .before .before .before .before in
     let a = start .args in
-    let b = left-level (a .ws .now) (a .t) (a .t3) (c .before .before .left-sibling-branch-level .result) (c .before .if1 .left) (c .before .before .left-sibling-branch-level .ensures) in
-    let v = level (a .ws .now) (a .t) (a .t3) (start .pre .0) (start .pre .1 .0) (start .pre .1 .1) (c .before .before .left-sibling-branch-level .result) (b .0) in
-    (v, omega arith)
+    let v = left-level (a .ws .now) (a .t) (a .t3) (start .pre .0) (start .pre .1 .0) (start .pre .1 .1) (c .before .before .l .given .0 .0) (cc) in
+    (v .0, omega arith)
 
 returns-2 : tie.Need-returns-2
 returns-2 c =
-    let start = c .before .before .before .before .before in
+    let start = c .before .before .before .before .before .before .before in
     let a = start .args in
-    let b = left-level (a .ws .now) (a .t) (a .t3) (c .before .before .before .left-sibling-branch-level .result) (c .before .before .if1 .left) (c .before .before .before .left-sibling-branch-level .ensures) in
-    let v = level (a .ws .now) (a .t) (a .t3) (start .pre .0) (start .pre .1 .0) (start .pre .1 .1) (c .before .before .before .left-sibling-branch-level .result) (b .0) in
-    prev-some (a .ws .now) (a .t) (a .t3) (start .pre .0) (start .pre .1 .1) (c .before .before .before .left-sibling-branch-level .result) _ (c .before .before .before .left-sibling-branch-level .ensures) (c .before .before .if1 .left) (omega arith) (c .branch-off .ensures)
+    let v = left-level (a .ws .now) (a .t) (a .t3) (start .pre .0) (start .pre .1 .0) (start .pre .1 .1) (c .before .before .before .l .given .0 .0) (cc) in
+    prev-some (a .ws .now) (a .t) (a .t3) (start .pre .0) (start .pre .1 .1) (c .before .before .before .l .given .0 .0) _ (cc) (omega arith) (c .branch-off .ensures)
 
 pub prev-leaf-spec : {M : Type 1} → statement M
 prev-leaf-spec =
@@ -73,6 +73,8 @@ prev-leaf-spec =
     cast-size
     sub-left-sibling-branch-level
     left-sibling-branch-level-requires
+    enum-known-l
+    enum-told
     returns
     mul-place
     element-copy-out-place

@@ -4,7 +4,7 @@ use native.Mathlib.Omega.{arith}
 use native.Mathlib.Numerals.{add-one}
 use lib.ListN.{take}
 use Rattle.forest.specs.Lists.{pad}
-use Rattle.path.proofs.CursorWords.{front-more}
+use Rattle.forest.proofs.CountLaws.{front-more}
 use Rattle.path.proofs.front.Statement.{statement}
 use Rattle.path.proofs.front.Tie as tie
 
@@ -36,7 +36,7 @@ loop-less : tie.Need-loop-less Inv-loop μ-loop
 loop-less c = omega arith
 
 loop-again : tie.Need-loop-again Inv-loop μ-loop
-loop-again c = (omega arith, rw (c .before .loop .inv .1, add-one) (front-more 16 (c .before .before .args .t1) (c .before .loop .i) (omega arith) (omega arith)))
+loop-again c = (omega arith, rw (c .before .loop .inv .1, add-one) (front-more 16 (c .before .before .args .t1) (c .before .loop .i) (omega arith)))
 
 returns : tie.Need-returns Inv-loop μ-loop
 returns c =

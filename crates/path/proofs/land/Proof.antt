@@ -1,6 +1,6 @@
 use Prim.Native.Nat.{_-_}
 use native.Mathlib.Omega.{arith}
-use Rattle.path.proofs.Steps.{lent-rise, found-here, found-absent, lands-key, lands-first, lands-last}
+use Rattle.path.proofs.Steps.{lent-asks, found-here, found-absent, lands-key, lands-first, lands-last}
 use borrow.Author.Needs.{needs}
 use Rattle.path.proofs.land.Statement.{statement}
 use Rattle.path.proofs.land.Tie as tie
@@ -26,9 +26,6 @@ add-search c = search needs
 add-search-2 : tie.Need-add-search-2
 add-search-2 c = search needs
 
-add-search-3 : tie.Need-add-search-3
-add-search-3 c = search needs
-
 mul-search : tie.Need-mul-search
 mul-search c = search needs
 
@@ -44,7 +41,7 @@ part-search-end c = search needs
 search-requires : tie.Need-search-requires
 search-requires c κs =
     let start = c .before .before .before .before .before .before in
-    lent-rise (start .args .ws .now) (start .args .b) 32 (start .pre .1 .0 .1) (start .pre .1 .1)
+    lent-asks (start .args .ws .now) (start .args .b) 32 (start .pre .1 .0 .1) (start .pre .1 .1) (start .pre .0)
 
 enum-known-i : tie.Need-enum-known-i
 enum-known-i c = search needs
@@ -92,7 +89,6 @@ land-spec =
     enum-known-way
     add-search
     add-search-2
-    add-search-3
     mul-search
     sub-search
     part-search-start

@@ -1,13 +1,13 @@
 use mathlib.Core.Path.{_≡_, refl, sym, _∙_}
 use native.Mathlib.Omega.{arith}
 use lib.ListN.{length}
-use Rattle.requests.specs.Turns.{rank}
+use Rattle.requests.specs.Turns.{room, rank}
 use Rattle.requests.proofs.Falling.{wanting}
 use Rattle.replay.proofs.main.Statement.{statement}
 use Rattle.replay.proofs.main.Tie as tie
 
 abbrev Inv-loop : tie.InvT-loop
-Inv-loop pool₀ stage₀ pool stage = length pool ≡ 8739
+Inv-loop pool₀ stage₀ pool stage = length pool ≡ room
 
 abbrev μ-loop : tie.MeasureT-loop
 μ-loop pool₀ stage₀ pool stage = rank stage

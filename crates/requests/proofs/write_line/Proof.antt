@@ -48,7 +48,7 @@ same-length c = c .before .before .digits2 .kept .0 ∙ simp length-set (long (c
 returns : tie.Need-returns
 returns c = (
   line-written (c .before .before .before .before .before .before .before .before .before .before .args .answer) (c .before .before .before .before .before .before .before .before .before .before .args .out .now) (c .before .before .before .before .before .before .before .digits .last .0) (c .before .before .digits2 .last .0) (c .before .before .before .before .before .before .before .digits .result) (c .before .before .digits2 .result) (c .before .before .before .before .flag .result)
-      (c .before .before .before .before .before .before .before .before .before .before .pre) (long (c .before .before .before .before .before .before .before)) (omega (arith, c .before .before .before .before .before .before .before .digits .ensures .1)) (omega (arith, c .before .before .before .before .before .before .before .digits .ensures .1)) (c .before .before .before .before .flag .ensures)
+      (c .before .before .before .before .before .before .before .before .before .before .pre) (long (c .before .before .before .before .before .before .before)) (omega (arith, c .before .before .before .before .before .before .before .digits .ensures .1)) (omega (arith, c .before .before .before .before .before .before .before .digits .ensures .1)) (c .before .before .digits2 .ensures .1 .0) (c .before .before .before .before .flag .ensures)
       (c .before .before .before .before .before .before .before .digits .ensures .0) (c .before .before .digits2 .ensures .0),
   omega (arith, c .before .before .digits2 .ensures .1, c .before .before .before .before .before .before .before .digits .ensures .1),
 )

@@ -20,7 +20,7 @@ same-length : tie.Need-same-length
 same-length c = search needs
 
 returns-2 : tie.Need-returns-2
-returns-2 c = (line-said _ _ _ (c .before .before .before .before .before .said .given .1) (c .before .before .write-line .ensures .0), c .before .before .write-line .ensures .1)
+returns-2 c = (line-said _ _ (c .before .before .before .before .before .before .before .before .args .out .now) _ (c .before .before .write-line .result) (c .before .before .before .before .before .said .given .1) (c .before .before .write-line .ensures .0), c .before .before .write-line .ensures .1)
 
 pub write-text-spec : {M : Type 1} → statement M
 write-text-spec =

@@ -1,6 +1,6 @@
 use mathlib.Core.Path.{_≡_, refl, sym, _∙_}
 use mathlib.Core.Bool.{Bool, true, false, not}
-use Prim.Native.Nat.{_+_, _-_, _*_, _≤_}
+use Prim.Native.Nat.{ℕ, _+_, _-_, _*_, _≤_}
 use native.Mathlib.Omega.{arith}
 use lib.ListN.{length, getD}
 use borrow.Author.Needs.{needs}
@@ -8,7 +8,7 @@ use borrow.Author.Tests.{not-true, not-false}
 use Rattle.sound.specs.Checks.{frees}
 use Rattle.walk.specs.Walks.{meets}
 use Rattle.walk.proofs.Laws.{meets-none, meets-out, meets-in, has-read, mark-write}
-use Rattle.walk.proofs.WalkSteps.{placed}
+use Rattle.walk.proofs.WalkSteps.{Placed, placed}
 use Rattle.sound.proofs.CheckSteps.{frees-no, frees-full, frees-on, frees-end, frees-start}
 use Rattle.sound.proofs.verify_freelist.Statement.{statement}
 use Rattle.sound.proofs.verify_freelist.Tie as tie
@@ -117,60 +117,32 @@ returns-3 c =
     let y = sym (meets-in (a .n) (m .all) (getD (a .ws .now) (a .t + 3 + 16 * a .n + m .i) 0) (c .before .before .has-bit .result) (c .before .before .before .before .if1 .left) (c .before .before .before .if2 .left) h) in
     c .no3 .ensures ∙ frees-no (a .ws .now) (a .t) (a .n) (a .f) (m .i) (m .all) (a .t + 3 + 16 * a .n) (c .before .before .before .before .before .before .loop-test .taken) (y ∙ not-of (c .before .before .has-bit .result) (c .before .if3 .taken)) ∙ sym (m .inv .2) ∙ frees-start (a .ws .now) (a .t) (a .n) (a .f) (a .t + 3 + 16 * a .n) (a .marks)
 
+-- the number at the place where the check goes on with it: it may be met, and so its node stands in the pool
+abbrev number : tie.Else3 Inv-loop μ-loop → ℕ
+number c = getD (c .before .before .before .before .before .before .before .before .args .ws .now) (c .before .before .before .before .before .before .before .before .args .t + 3 + 16 * c .before .before .before .before .before .before .before .before .args .n + c .before .before .before .before .before .before .loop .i) 0
+
+seen : (c : tie.Else3 Inv-loop μ-loop) → meets (c .before .before .before .before .before .before .before .before .args .n) (c .before .before .before .before .before .before .loop .all) (number c) ≡ true
+seen c =
+    let h = has-read (c .before .before .before .before .before .before .loop .all) (number c) _ (omega (arith, c .before .before .before .if1 .left)) (c .before .has-bit .ensures) in
+    sym (meets-in (c .before .before .before .before .before .before .before .before .args .n) (c .before .before .before .before .before .before .loop .all) (number c) (c .before .has-bit .result) (c .before .before .before .if1 .left) (c .before .before .if2 .left) h) ∙ of-not (c .before .has-bit .result) (c .if3 .left)
+
+here : (c : tie.Else3 Inv-loop μ-loop) → Placed (c .before .before .before .before .before .before .before .before .args .ws .now) (c .before .before .before .before .before .before .before .before .args .t) (c .before .before .before .before .before .before .before .before .args .n) (number c)
+here c = placed (c .before .before .before .before .before .before .before .before .args .ws .now) (c .before .before .before .before .before .before .before .before .args .t) (c .before .before .before .before .before .before .before .before .args .n) (c .before .before .before .before .before .before .loop .all) (number c) (c .before .before .before .before .before .before .before .before .pre .0) (seen c)
+
 cast-b : tie.Need-cast-b Inv-loop μ-loop
-cast-b c =
-    let m = c .before .before .before .before .before .before .loop in
-    let a = c .before .before .before .before .before .before .before .before .args in
-    let pre = c .before .before .before .before .before .before .before .before .pre in
-    let h = has-read (m .all) (getD (a .ws .now) (a .t + 3 + 16 * a .n + m .i) 0) _ (omega (arith, c .before .before .before .if1 .left)) (c .before .has-bit .ensures) in
-    let y = sym (meets-in (a .n) (m .all) (getD (a .ws .now) (a .t + 3 + 16 * a .n + m .i) 0) (c .before .has-bit .result) (c .before .before .before .if1 .left) (c .before .before .if2 .left) h) in
-    let seen : meets (a .n) (m .all) (getD (a .ws .now) (a .t + 3 + 16 * a .n + m .i) 0) ≡ true = y ∙ of-not (c .before .has-bit .result) (c .if3 .left) in
-    let here = placed (a .ws .now) (a .t) (a .n) (m .all) (getD (a .ws .now) (a .t + 3 + 16 * a .n + m .i) 0) (pre .0) seen in
-    omega (arith, here)
+cast-b c = omega (arith, here c)
 
 mul-b : tie.Need-mul-b Inv-loop μ-loop
-mul-b c =
-    let m = c .before .before .before .before .before .before .loop in
-    let a = c .before .before .before .before .before .before .before .before .args in
-    let pre = c .before .before .before .before .before .before .before .before .pre in
-    let h = has-read (m .all) (getD (a .ws .now) (a .t + 3 + 16 * a .n + m .i) 0) _ (omega (arith, c .before .before .before .if1 .left)) (c .before .has-bit .ensures) in
-    let y = sym (meets-in (a .n) (m .all) (getD (a .ws .now) (a .t + 3 + 16 * a .n + m .i) 0) (c .before .has-bit .result) (c .before .before .before .if1 .left) (c .before .before .if2 .left) h) in
-    let seen : meets (a .n) (m .all) (getD (a .ws .now) (a .t + 3 + 16 * a .n + m .i) 0) ≡ true = y ∙ of-not (c .before .has-bit .result) (c .if3 .left) in
-    let here = placed (a .ws .now) (a .t) (a .n) (m .all) (getD (a .ws .now) (a .t + 3 + 16 * a .n + m .i) 0) (pre .0) seen in
-    omega (arith, here)
+mul-b c = omega (arith, here c)
 
 add-b : tie.Need-add-b Inv-loop μ-loop
-add-b c =
-    let m = c .before .before .before .before .before .before .loop in
-    let a = c .before .before .before .before .before .before .before .before .args in
-    let pre = c .before .before .before .before .before .before .before .before .pre in
-    let h = has-read (m .all) (getD (a .ws .now) (a .t + 3 + 16 * a .n + m .i) 0) _ (omega (arith, c .before .before .before .if1 .left)) (c .before .has-bit .ensures) in
-    let y = sym (meets-in (a .n) (m .all) (getD (a .ws .now) (a .t + 3 + 16 * a .n + m .i) 0) (c .before .has-bit .result) (c .before .before .before .if1 .left) (c .before .before .if2 .left) h) in
-    let seen : meets (a .n) (m .all) (getD (a .ws .now) (a .t + 3 + 16 * a .n + m .i) 0) ≡ true = y ∙ of-not (c .before .has-bit .result) (c .if3 .left) in
-    let here = placed (a .ws .now) (a .t) (a .n) (m .all) (getD (a .ws .now) (a .t + 3 + 16 * a .n + m .i) 0) (pre .0) seen in
-    omega (arith, here)
+add-b c = omega (arith, here c)
 
 sub-b : tie.Need-sub-b Inv-loop μ-loop
-sub-b c =
-    let m = c .before .before .before .before .before .before .loop in
-    let a = c .before .before .before .before .before .before .before .before .args in
-    let pre = c .before .before .before .before .before .before .before .before .pre in
-    let h = has-read (m .all) (getD (a .ws .now) (a .t + 3 + 16 * a .n + m .i) 0) _ (omega (arith, c .before .before .before .if1 .left)) (c .before .has-bit .ensures) in
-    let y = sym (meets-in (a .n) (m .all) (getD (a .ws .now) (a .t + 3 + 16 * a .n + m .i) 0) (c .before .has-bit .result) (c .before .before .before .if1 .left) (c .before .before .if2 .left) h) in
-    let seen : meets (a .n) (m .all) (getD (a .ws .now) (a .t + 3 + 16 * a .n + m .i) 0) ≡ true = y ∙ of-not (c .before .has-bit .result) (c .if3 .left) in
-    let here = placed (a .ws .now) (a .t) (a .n) (m .all) (getD (a .ws .now) (a .t + 3 + 16 * a .n + m .i) 0) (pre .0) seen in
-    omega (arith, here)
+sub-b c = omega (arith, here c)
 
 are-zero-requires : tie.Need-are-zero-requires Inv-loop μ-loop
-are-zero-requires c κs =
-    let m = c .before .before .before .before .before .before .loop in
-    let a = c .before .before .before .before .before .before .before .before .args in
-    let pre = c .before .before .before .before .before .before .before .before .pre in
-    let h = has-read (m .all) (getD (a .ws .now) (a .t + 3 + 16 * a .n + m .i) 0) _ (omega (arith, c .before .before .before .if1 .left)) (c .before .has-bit .ensures) in
-    let y = sym (meets-in (a .n) (m .all) (getD (a .ws .now) (a .t + 3 + 16 * a .n + m .i) 0) (c .before .has-bit .result) (c .before .before .before .if1 .left) (c .before .before .if2 .left) h) in
-    let seen : meets (a .n) (m .all) (getD (a .ws .now) (a .t + 3 + 16 * a .n + m .i) 0) ≡ true = y ∙ of-not (c .before .has-bit .result) (c .if3 .left) in
-    let here = placed (a .ws .now) (a .t) (a .n) (m .all) (getD (a .ws .now) (a .t + 3 + 16 * a .n + m .i) 0) (pre .0) seen in
-    omega (arith, here)
+are-zero-requires c κs = omega (arith, here c)
 
 no-requires-4 : tie.Need-no-requires-4 Inv-loop μ-loop
 no-requires-4 c κs = search needs
@@ -179,12 +151,7 @@ returns-4 : tie.Need-returns-4 Inv-loop μ-loop
 returns-4 c =
     let m = c .before .before .before .before .before .before .before .before .before .loop in
     let a = c .before .before .before .before .before .before .before .before .before .before .before .args in
-    let pre = c .before .before .before .before .before .before .before .before .before .before .before .pre in
-    let h = has-read (m .all) (getD (a .ws .now) (a .t + 3 + 16 * a .n + m .i) 0) _ (omega (arith, c .before .before .before .before .before .before .if1 .left)) (c .before .before .before .before .has-bit .ensures) in
-    let y = sym (meets-in (a .n) (m .all) (getD (a .ws .now) (a .t + 3 + 16 * a .n + m .i) 0) (c .before .before .before .before .has-bit .result) (c .before .before .before .before .before .before .if1 .left) (c .before .before .before .before .before .if2 .left) h) in
-    let seen : meets (a .n) (m .all) (getD (a .ws .now) (a .t + 3 + 16 * a .n + m .i) 0) ≡ true = y ∙ of-not (c .before .before .before .before .has-bit .result) (c .before .before .before .if3 .left) in
-    let here = placed (a .ws .now) (a .t) (a .n) (m .all) (getD (a .ws .now) (a .t + 3 + 16 * a .n + m .i) 0) (pre .0) seen in
-    c .no4 .ensures ∙ frees-full (a .ws .now) (a .t) (a .n) (a .f) (m .i) (m .all) (a .t + 3 + 16 * a .n) (c .before .before .before .before .before .before .before .before .loop-test .taken) seen (sym (c .before .before .are-zero .ensures) ∙ not-true (c .before .before .are-zero .result) (c .before .if4 .taken)) ∙ sym (m .inv .2) ∙ frees-start (a .ws .now) (a .t) (a .n) (a .f) (a .t + 3 + 16 * a .n) (a .marks)
+    c .no4 .ensures ∙ frees-full (a .ws .now) (a .t) (a .n) (a .f) (m .i) (m .all) (a .t + 3 + 16 * a .n) (c .before .before .before .before .before .before .before .before .loop-test .taken) (seen (c .before .before .before)) (sym (c .before .before .are-zero .ensures) ∙ not-true (c .before .before .are-zero .result) (c .before .if4 .taken)) ∙ sym (m .inv .2) ∙ frees-start (a .ws .now) (a .t) (a .n) (a .f) (a .t + 3 + 16 * a .n) (a .marks)
 
 with-bit-requires : tie.Need-with-bit-requires Inv-loop μ-loop
 with-bit-requires c κs =
@@ -194,26 +161,10 @@ with-bit-requires c κs =
     omega arith
 
 mul-all : tie.Need-mul-all Inv-loop μ-loop
-mul-all c =
-    let m = c .before .before .before .before .before .before .before .before .before .loop in
-    let a = c .before .before .before .before .before .before .before .before .before .before .before .args in
-    let pre = c .before .before .before .before .before .before .before .before .before .before .before .pre in
-    let h = has-read (m .all) (getD (a .ws .now) (a .t + 3 + 16 * a .n + m .i) 0) _ (omega (arith, c .before .before .before .before .before .before .if1 .left)) (c .before .before .before .before .has-bit .ensures) in
-    let y = sym (meets-in (a .n) (m .all) (getD (a .ws .now) (a .t + 3 + 16 * a .n + m .i) 0) (c .before .before .before .before .has-bit .result) (c .before .before .before .before .before .before .if1 .left) (c .before .before .before .before .before .if2 .left) h) in
-    let seen : meets (a .n) (m .all) (getD (a .ws .now) (a .t + 3 + 16 * a .n + m .i) 0) ≡ true = y ∙ of-not (c .before .before .before .before .has-bit .result) (c .before .before .before .if3 .left) in
-    let here = placed (a .ws .now) (a .t) (a .n) (m .all) (getD (a .ws .now) (a .t + 3 + 16 * a .n + m .i) 0) (pre .0) seen in
-    omega (arith, here, m .inv .1)
+mul-all c = omega (arith, here (c .before .before .before), c .before .before .before .before .before .before .before .before .before .loop .inv .1)
 
 array-write-all : tie.Need-array-write-all Inv-loop μ-loop
-array-write-all c =
-    let m = c .before .before .before .before .before .before .before .before .before .loop in
-    let a = c .before .before .before .before .before .before .before .before .before .before .before .args in
-    let pre = c .before .before .before .before .before .before .before .before .before .before .before .pre in
-    let h = has-read (m .all) (getD (a .ws .now) (a .t + 3 + 16 * a .n + m .i) 0) _ (omega (arith, c .before .before .before .before .before .before .if1 .left)) (c .before .before .before .before .has-bit .ensures) in
-    let y = sym (meets-in (a .n) (m .all) (getD (a .ws .now) (a .t + 3 + 16 * a .n + m .i) 0) (c .before .before .before .before .has-bit .result) (c .before .before .before .before .before .before .if1 .left) (c .before .before .before .before .before .if2 .left) h) in
-    let seen : meets (a .n) (m .all) (getD (a .ws .now) (a .t + 3 + 16 * a .n + m .i) 0) ≡ true = y ∙ of-not (c .before .before .before .before .has-bit .result) (c .before .before .before .if3 .left) in
-    let here = placed (a .ws .now) (a .t) (a .n) (m .all) (getD (a .ws .now) (a .t + 3 + 16 * a .n + m .i) 0) (pre .0) seen in
-    omega (arith, here, m .inv .1)
+array-write-all c = omega (arith, here (c .before .before .before), c .before .before .before .before .before .before .before .before .before .loop .inv .1)
 
 add-i : tie.Need-add-i Inv-loop μ-loop
 add-i c = omega arith
@@ -225,12 +176,7 @@ loop-again : tie.Need-loop-again Inv-loop μ-loop
 loop-again c =
     let m = c .before .before .before .before .before .before .before .before .before .loop in
     let a = c .before .before .before .before .before .before .before .before .before .before .before .args in
-    let pre = c .before .before .before .before .before .before .before .before .before .before .before .pre in
-    let h = has-read (m .all) (getD (a .ws .now) (a .t + 3 + 16 * a .n + m .i) 0) _ (omega (arith, c .before .before .before .before .before .before .if1 .left)) (c .before .before .before .before .has-bit .ensures) in
-    let y = sym (meets-in (a .n) (m .all) (getD (a .ws .now) (a .t + 3 + 16 * a .n + m .i) 0) (c .before .before .before .before .has-bit .result) (c .before .before .before .before .before .before .if1 .left) (c .before .before .before .before .before .if2 .left) h) in
-    let seen : meets (a .n) (m .all) (getD (a .ws .now) (a .t + 3 + 16 * a .n + m .i) 0) ≡ true = y ∙ of-not (c .before .before .before .before .has-bit .result) (c .before .before .before .if3 .left) in
-    let here = placed (a .ws .now) (a .t) (a .n) (m .all) (getD (a .ws .now) (a .t + 3 + 16 * a .n + m .i) 0) (pre .0) seen in
-    (omega arith, search needs, m .inv .2 ∙ frees-on (a .ws .now) (a .t) (a .n) (a .f) (m .i) (m .all) (a .t + 3 + 16 * a .n) (c .before .before .before .before .before .before .before .before .loop-test .taken) seen (sym (c .before .before .are-zero .ensures) ∙ not-false (c .before .before .are-zero .result) (c .before .if4 .left)) _ (mark-write (m .all) (getD (a .ws .now) (a .t + 3 + 16 * a .n + m .i) 0) _ (here .some) (c .with-bit .ensures)))
+    (omega arith, search needs, m .inv .2 ∙ frees-on (a .ws .now) (a .t) (a .n) (a .f) (m .i) (m .all) (a .t + 3 + 16 * a .n) (c .before .before .before .before .before .before .before .before .loop-test .taken) (seen (c .before .before .before)) (sym (c .before .before .are-zero .ensures) ∙ not-false (c .before .before .are-zero .result) (c .before .if4 .left)) _ (mark-write (m .all) (getD (a .ws .now) (a .t + 3 + 16 * a .n + m .i) 0) _ (here (c .before .before .before) .some) (c .with-bit .ensures)))
 
 returns-5 : tie.Need-returns-5 Inv-loop μ-loop
 returns-5 c = sym (frees-end (c .before .before .before .args .ws .now) (c .before .before .before .args .t) (c .before .before .before .args .n) (c .before .before .before .args .f) (c .before .loop .i) (c .before .loop .all) (c .before .before .before .args .t + 3 + 16 * c .before .before .before .args .n) (c .loop-test .left)) ∙ sym (c .before .loop .inv .2) ∙ frees-start (c .before .before .before .args .ws .now) (c .before .before .before .args .t) (c .before .before .before .args .n) (c .before .before .before .args .f) (c .before .before .before .args .t + 3 + 16 * c .before .before .before .args .n) (c .before .before .before .args .marks)
