@@ -4,18 +4,18 @@
 #include <inttypes.h>
 #include <stdio.h>
 
-enum { TREES = 2, NODES = 4, LEN = TREES + 17 * NODES + 3 };
+enum { TREES = 2, NODES = 4, LEN = RECORDER_WORDS(TREES, NODES) };
 
 int main(void) {
     static uint32_t words[LEN];
-    if (recorder_format(words, LEN, TREES, NODES).number != 0)
+    if (recorder_format(words, LEN, TREES, NODES).number != RECORDER_DONE)
         return 1;
 
     /* File release notes in tree 0: the note's number, and the tank it is for. Note 9 comes twice. */
     const uint32_t notes[][2] = {{12, 3}, {9, 1}, {40, 2}, {9, 1}};
     for (size_t i = 0; i < sizeof notes / sizeof notes[0]; i++) {
         recorder_answer put = recorder_put(words, LEN, 0, notes[i][0], notes[i][1]);
-        printf("put %" PRIu32 ": %s\n", notes[i][0], put.number ? "refused" : put.found ? "again" : "new");
+        printf("put %" PRIu32 ": %s\n", notes[i][0], put.number != RECORDER_DONE ? "refused" : put.found ? "again" : "new");
     }
 
     /* Ask for one that is there, one that is not, and a tree that is not. */

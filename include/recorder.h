@@ -60,9 +60,10 @@ typedef struct {
 } recorder_moved;
 
 /*
- * THE PUBLIC CALLS. They may be called on any words and with any cursor: each checks the words first, in time that
- * grows with the pool, then the tree number, then the cursor. `words` points to `len` words; where len is 0 it may be
- * any pointer that is not null and aligned for uint32_t. While a call runs no other thread may write the words.
+ * THE PUBLIC CALLS. They may be called on any words and with any cursor: each but recorder_format checks the words
+ * first, in time that grows with the pool, then the tree number, then the cursor. `words` points to `len` words; where
+ * len is 0 it may be any pointer that is not null and aligned for uint32_t. While a call runs no other thread may write
+ * the words.
  */
 
 /* Whether the words are a sound pool. */

@@ -7,11 +7,10 @@ use std::process::exit;
 fn main() {
     println!("cargo:rerun-if-env-changed=RECORDER_LIB_DIR");
     println!("cargo:rerun-if-changed=build.rs");
-    let arch = env::var("CARGO_CFG_TARGET_ARCH").unwrap_or_default();
-    if arch != "x86_64" {
-        eprintln!(
-            "recorder: the proved library is compiled for x86_64, and this build is for {arch}."
-        );
+    let target = |part: &str| env::var(format!("CARGO_CFG_TARGET_{part}")).unwrap_or_default();
+    let (system, arch) = (target("OS"), target("ARCH"));
+    if (system.as_str(), arch.as_str()) != ("linux", "x86_64") {
+        eprintln!("recorder: the proved library is compiled for Linux on x86_64, and this build is for {system} on {arch}.");
         exit(1);
     }
     let package = PathBuf::from(env::var_os("CARGO_MANIFEST_DIR").unwrap_or_default());

@@ -220,6 +220,7 @@ pub fn run(source: &mut Source, trial: &mut Trial) -> Result<(), Finding> {
     let mut kept = Vec::new();
     let kind = source.pick(&KINDS);
     let mut state = match kind {
+        Kind::Written => unreachable!("it is not drawn"),
         Kind::Random => State::new(make::random(source)),
         Kind::Lookalike => State::new(make::lookalike(source)),
         Kind::Damaged => damaged(source, trial, &mut kept)?,

@@ -4,9 +4,10 @@ use crate::raw::{Answer, Call};
 use crate::sound::Broken;
 use crate::trial::{State, Way};
 
-/// Kinds of input.
+/// Kinds of input. The first is not drawn: what document 01 writes out, which comes before all others.
 #[derive(Clone, Copy, PartialEq, Eq)]
 pub enum Kind {
+    Written,
     Random,
     Lookalike,
     Damaged,
@@ -16,7 +17,8 @@ pub enum Kind {
 }
 
 impl Kind {
-    pub const NAMES: [&str; 6] = [
+    pub const NAMES: [&str; 7] = [
+        "document 01's trials",
         "random words",
         "lookalikes",
         "damaged copies",
@@ -24,6 +26,9 @@ impl Kind {
         "made sound pools",
         "grown sound pools",
     ];
+
+    /// How many kinds are drawn.
+    pub const DRAWN: usize = Kind::NAMES.len() - 1;
 }
 
 /// Numbers that a call can answer.
@@ -35,9 +40,9 @@ pub struct Counts {
     pub calls: u64,
     pub cores: u64,
     pub grown: u64,
-    inputs: [u64; 6],
-    sound: [u64; 6],
-    by_kind: [[u64; NUMBERS]; 6],
+    inputs: [u64; Kind::NAMES.len()],
+    sound: [u64; Kind::NAMES.len()],
+    by_kind: [[u64; NUMBERS]; Kind::NAMES.len()],
     by_call: [[u64; NUMBERS]; 12],
     found: [u64; 12],
     broken: [u64; Broken::ALL.len()],
@@ -83,21 +88,19 @@ impl Counts {
         self.inputs.iter().sum()
     }
 
-    /// The counts as tables.
+    /// The counts as tables, of a run without a finding.
     pub fn print(&self) {
-        println!("\n{:<18}{:>9}{:>9}   answered 0, 1, 2, 3, 4, 5", "inputs", "count", "sound");
+        println!("\n{:<22}{:>9}{:>9}   answered 0, 1, 2, 3, 4, 5", "inputs", "count", "sound");
         for (i, name) in Kind::NAMES.iter().enumerate() {
-            println!(
-                "{name:<18}{:>9}{:>9}  {}",
-                self.inputs[i],
-                self.sound[i],
-                row(&self.by_kind[i])
-            );
+            let drawn =
+                |n: u64| if i == Kind::Written as usize { "-".into() } else { n.to_string() };
+            let (count, sound) = (drawn(self.inputs[i]), drawn(self.sound[i]));
+            println!("{name:<22}{count:>9}{sound:>9}  {}", row(&self.by_kind[i]));
         }
-        println!("\n{:<18}{:>9}{:>9}   answered 0, 1, 2, 3, 4, 5", "calls", "count", "found");
+        println!("\n{:<22}{:>9}{:>9}   answered 0, 1, 2, 3, 4, 5", "calls", "count", "found");
         for (i, name) in Call::NAMES.iter().enumerate() {
             let all: u64 = self.by_call[i].iter().sum();
-            println!("{name:<18}{all:>9}{:>9}  {}", self.found[i], row(&self.by_call[i]));
+            println!("{name:<22}{all:>9}{:>9}  {}", self.found[i], row(&self.by_call[i]));
         }
         println!("\nsound inputs by levels of the tallest tree, 0 to 6: {}", row(&self.levels));
         println!("calls that changed words, by nodes taken, 1 to 7:     {}", row(&self.taken[1..]));
@@ -107,7 +110,7 @@ impl Counts {
             println!("{:>9}  {}", self.broken[rule as usize], rule.text());
         }
         println!(
-            "\n{} inputs, {} calls (each at both ends of the pages, and {} of them as core too), {} more to grow pools",
+            "\nno finding in {} inputs and {} calls (each at both ends of the pages, and {} of them as core too), and {} more to grow pools",
             self.all_inputs(),
             self.calls,
             self.cores,

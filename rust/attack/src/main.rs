@@ -216,7 +216,7 @@ fn main() {
                     number.into_iter().flat_map(|number| [name.to_string(), number.to_string()]),
                 );
             }
-            println!("seed {}, {} kinds of input", words.seed, Kind::NAMES.len());
+            println!("seed {}, {} kinds of input", words.seed, Kind::DRAWN);
             matches!(attack(&words, &more, false), End::Well)
         }
     };

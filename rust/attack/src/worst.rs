@@ -12,29 +12,29 @@ use std::arch::asm;
 /// So many keys of each pool are tried, those first that take or free most.
 const TRIED: usize = 4;
 
-/// Sound pools of 512 nodes, each with a name. The first tree of each is the one that is called on.
+/// Sound pools of 512 nodes, each with a name. The first tree of each is the one that is called on; its levels begin the name.
 fn pools() -> Vec<(String, Pool)> {
-    let mut pools = vec![
-        ("3 levels, full".into(), make::tall(1, Fill::Most, 3, 3)),
+    let mut pools: Vec<(String, Pool)> = vec![
+        ("full".into(), make::tall(1, Fill::Most, 3, 3)),
         ("all nodes in one tree, full".into(), make::packed(7, 8)),
         ("all nodes in one tree, half full".into(), make::packed(3, 4)),
         ("fresh, 1 tree".into(), Pool::fresh(1, 512)),
         ("fresh, 32 trees".into(), Pool::fresh(32, 512)),
     ];
     for (levels, full_from) in [(1, 0), (2, 0), (3, 0), (4, 0), (5, 1), (6, 3)] {
-        pools.push((
-            format!("{levels} levels, least full"),
-            make::tall(1, Fill::Least, levels, levels),
-        ));
-        let name = format!("{levels} levels, one path full from level {full_from} down");
+        pools.push(("least full".into(), make::tall(1, Fill::Least, levels, levels)));
+        let name = format!("one path full from level {full_from} down");
         pools.push((name, make::tall(1, Fill::Least, levels, full_from)));
     }
     for seed in 1..=6 {
-        pools.push((format!("6 levels, drawn {seed}"), make::tall(100 * seed, Fill::Low, 6, 6)));
+        pools.push((format!("one tree, drawn {seed}"), make::tall(100 * seed, Fill::Low, 6, 6)));
         pools.push((
             format!("many trees, drawn {seed}"),
             make::pool(&mut Source::drawn(seed, 1), 32, 512),
         ));
+    }
+    for (name, pool) in &mut pools {
+        *name = format!("{} levels, {name}", pool.trees[0].rows.len());
     }
     pools
 }

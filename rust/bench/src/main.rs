@@ -93,7 +93,12 @@ fn one(words: &[String]) {
         .into_iter()
         .find(|m| m.word() == mix)
         .unwrap_or_else(|| stop(&format!("there is no mix {mix}")));
-    let work = Work::new(Setting { trees: number(trees), pairs: number(pairs) });
+    let setting = Setting { trees: number(trees), pairs: number(pairs) };
+    let fits = (1..=32).contains(&setting.trees) && (1..=1800).contains(&setting.pairs);
+    if !fits || setting.total() > 1800 {
+        stop("TREES is 1 to 32, PAIRS at least 1, and 1800 pairs in all at most");
+    }
+    let work = Work::new(setting);
     let clock = clock_cost();
     for _ in 0..number(times) {
         let run = run(mix, &work, clock);

@@ -129,10 +129,13 @@ fn sum(words: &[u32]) -> u32 {
 
 /// The sum with one load a word.
 fn sum_by_word(words: &[u32]) -> u32 {
-    words.iter().fold(0, |sum, word| sum.wrapping_add(unsafe { std::ptr::read_volatile(word) }))
+    // SAFETY: the word is lent for the read.
+    let load = |word: &u32| unsafe { std::ptr::read_volatile(word) };
+    words.iter().fold(0, |sum, word| sum.wrapping_add(load(word)))
 }
 
 fn check(words: &[u32]) -> u32 {
+    // SAFETY: pointer and length are the slice's, lent for the call; any words will do.
     u32::from(unsafe { recorder_check(words.as_ptr(), words.len()) })
 }
 

@@ -60,16 +60,20 @@ pub struct Run {
     pub fold: u64,
 }
 
-/// Answers folded to a number.
+/// Answers folded to a number. The factor is odd, so that no two numbers fold to one; it makes what comes again count anew.
 struct Fold(u64);
 
 impl Fold {
+    fn number(&mut self, number: u64) {
+        self.0 = (self.0.rotate_left(5) ^ number).wrapping_mul(0x9e37_79b9_7f4a_7c15);
+    }
+
     fn word(&mut self, word: u32) {
-        self.0 = self.0.rotate_left(5) ^ u64::from(word);
+        self.number(u64::from(word));
     }
 
     fn answer(&mut self, answer: Option<u32>) {
-        self.0 = self.0.rotate_left(5) ^ answer.map_or(1 << 32, u64::from);
+        self.number(answer.map_or(1 << 32, u64::from));
     }
 }
 

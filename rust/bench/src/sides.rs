@@ -49,6 +49,7 @@ impl Core {
 /// Words of a fresh pool.
 fn formatted(trees: u32) -> Vec<u32> {
     let mut words = vec![0; trees as usize + 17 * NODES as usize + 3];
+    // SAFETY: pointer and length are the vector's, lent alone for the call; any words will do.
     let answer = unsafe { recorder_format(words.as_mut_ptr(), words.len(), trees, NODES) };
     if answer.number != 0 {
         refused(answer.number);
@@ -75,7 +76,8 @@ fn refused(number: u32) -> ! {
     finding(&format!("the recorder refuses a call with {number}"));
 }
 
-/// The recorder with or without the check: the same calls by other names.
+/// The recorder with or without the check: the same calls by other names. The words of a side are sound: they are formatted, and
+/// only these calls write them.
 macro_rules! recorder {
     ($side:ident, $name:expr, $get:ident, $put:ident, $remove:ident, $first:ident, $next:ident) => {
         impl Side for $side {
@@ -86,23 +88,28 @@ macro_rules! recorder {
             }
 
             fn get(&self, tree: u32, key: u32) -> Option<u32> {
+                // SAFETY: the words are sound, and lent for the call, which tests the tree number.
                 found(unsafe { $get(self.0.as_ptr(), self.0.len(), tree, key) })
             }
 
             fn put(&mut self, tree: u32, key: u32, value: u32) -> Option<u32> {
+                // SAFETY: the words are sound, and lent alone for the call, which tests the tree number.
                 found(unsafe { $put(self.0.as_mut_ptr(), self.0.len(), tree, key, value) })
             }
 
             fn remove(&mut self, tree: u32, key: u32) -> Option<u32> {
+                // SAFETY: as for put.
                 found(unsafe { $remove(self.0.as_mut_ptr(), self.0.len(), tree, key) })
             }
 
             fn pairs(&self, tree: u32) -> impl Iterator<Item = (u32, u32)> {
                 let (words, len) = (self.0.as_ptr(), self.0.len());
+                // SAFETY: the words are sound, and borrowed as long as the iterator is; the call tests the tree number.
                 let mut moved = unsafe { $first(words, len, off_end(tree)) };
                 std::iter::from_fn(move || {
                     let pair = (moved.answer.found != 0)
                         .then_some((moved.answer.key, moved.answer.value))?;
+                    // SAFETY: the same, and the cursor was just handed back, so it stands.
                     moved = unsafe { $next(words, len, moved.cursor) };
                     Some(pair)
                 })

@@ -135,28 +135,29 @@ impl fmt::Display for Cursor {
     }
 }
 
-/// Reads one call from a line such as `put 0 35 1035` or, on the tree's second cursor, `seek 0.1 35`.
+/// Reads one call from a line such as `put 0 35 1035` or, on the tree's second cursor, `seek 0.1 35`. Otherwise says what
+/// was expected.
 pub fn parse(line: &str) -> Result<Call, String> {
     let mut words = line.split_whitespace();
     let name = words.next().unwrap_or("");
-    let (op, _, count) =
-        OPS.iter().find(|o| o.1 == name).ok_or_else(|| format!("unknown call `{name}`"))?;
-    let (tree, which) = match words.next().map(|w| w.split_once('.').unwrap_or((w, "0"))) {
-        Some((tree, which)) => (number(tree)?, number(which)? as usize),
-        None => return Err(format!("`{name}` takes a tree and {count} more")),
+    let Some((op, _, count)) = OPS.iter().find(|o| o.1 == name) else {
+        return Err(format!("one of {}", OPS.map(|o| o.1).join(", ")));
     };
-    if which >= if op.by_key() { 1 } else { CURSORS } {
-        return Err(format!("`{name}` has no cursor {which}"));
-    }
-    let rest: Vec<u32> = words.map(number).collect::<Result<_, String>>()?;
-    if rest.len() != *count {
-        return Err(format!("`{name}` takes a tree and {count} more, not {}", rest.len()));
-    }
+    let form = || {
+        let (tree, cursors) =
+            if op.by_key() { ("TREE", "") } else { ("TREE[.CURSOR]", ", cursors from 0 to 2") };
+        let rest = ["", " KEY", " KEY VALUE"][*count];
+        format!("`{name} {tree}{rest}` with 32-bit numbers{cursors}")
+    };
+    let number = |word: &str| word.parse::<u32>().ok();
+    let at = words.next().map(|w| w.split_once('.').unwrap_or((w, "0")));
+    let at = at.and_then(|(tree, which)| number(tree).zip(number(which)));
+    let cursors = if op.by_key() { 1 } else { CURSORS };
+    let Some((tree, which)) = at.filter(|at| (at.1 as usize) < cursors) else {
+        return Err(form());
+    };
+    let rest: Option<Vec<u32>> = words.map(number).collect();
+    let rest = rest.filter(|rest| rest.len() == *count).ok_or_else(form)?;
     let at = |i: usize| rest.get(i).copied().unwrap_or(0);
-    Ok(Call::new(*op, tree as usize, at(0), at(1)).on(which))
-}
-
-/// Reads a 32-bit number.
-fn number(word: &str) -> Result<u32, String> {
-    word.parse().map_err(|_| format!("`{word}` is no 32-bit number"))
+    Ok(Call::new(*op, tree as usize, at(0), at(1)).on(which as usize))
 }

@@ -17,6 +17,14 @@ struct Wish {
 
 fn main() -> ExitCode {
     let wish = wish();
+    let lists = if wish.what == "--calls" { text::read_file(&wish.name) } else { Ok(Vec::new()) };
+    let lists = match lists {
+        Ok(lists) => lists,
+        Err(why) => {
+            eprintln!("judge: {why}");
+            return ExitCode::from(2);
+        }
+    };
     let done = match wish.what.as_str() {
         "--selftest" => selftest(),
         "--cases" => cases_table(),
@@ -24,7 +32,7 @@ fn main() -> ExitCode {
         "--record" => write(&wish.data),
         "--lists" => names(),
         "--list" => one_list(&wish),
-        "--calls" => text::run_file(&wish.name, wish.show),
+        "--calls" => text::run_lists(&lists, wish.show),
         other => Err(format!("unknown word: {other}")),
     };
     match done {

@@ -82,16 +82,17 @@ fn print_tree(runner: &Runner, step: &Step) {
 }
 
 /// Runs the lists of a file and prints each call.
-pub fn run_file(name: &str, show: Show) -> Result<(), String> {
-    for list in read_file(name)? {
+pub fn run_lists(lists: &[List], show: Show) -> Result<(), String> {
+    for list in lists {
         println!("trees {}\nnodes {}", list.trees, list.nodes);
-        run_calls(&list, show)?;
+        run_calls(list, show)?;
     }
     Ok(())
 }
 
-/// Reads a file of calls: `trees T` and `nodes N`, then a call a line; `run` starts another list on
-/// a fresh pool, and `pool` with words between commas gives it another beginning. Words after `->` and the other lines of a recorded run are passed over.
+/// Reads a file of calls: `trees T` and `nodes N`, in two lines or in one, then a call a line; `run` starts another list on
+/// a fresh pool, and `pool` with words between commas gives it another beginning. What stands after `#` or `->` and the other
+/// lines of a recorded run are passed over. Otherwise says which line is wrong, and what was expected.
 pub fn read_file(name: &str) -> Result<Vec<List>, String> {
     let text = if name == "-" {
         std::io::read_to_string(std::io::stdin())
@@ -101,17 +102,18 @@ pub fn read_file(name: &str) -> Result<Vec<List>, String> {
     let text = text.map_err(|e| format!("{name}: {e}"))?;
     let mut lists = vec![fresh(name)];
     for (i, raw) in text.lines().enumerate() {
-        let call = raw.split("->").next().unwrap_or("").trim();
+        let call = raw.split("->").next().unwrap_or("").split('#').next().unwrap_or("").trim();
         let first = call.split_whitespace().next().unwrap_or("");
         let rest = call[first.len()..].trim();
-        let number = || rest.parse::<usize>();
-        let wrong = |why: String| format!("{name}:{}: {why}", i + 1);
+        let wrong = |expected: String| {
+            let found: String = call.chars().take(40).collect();
+            format!("{name}:{}: expected {expected}, found `{}`", i + 1, found.escape_debug())
+        };
         let last = lists.len() - 1;
         match first {
-            "" | "cases" | "words" | "#" => {}
+            "" | "cases" | "words" => {}
             "run" => lists.push(fresh(rest)),
-            "trees" => lists[last].trees = number().map_err(|e| wrong(e.to_string()))?,
-            "nodes" => lists[last].nodes = number().map_err(|e| wrong(e.to_string()))?,
+            "trees" | "nodes" => sizes(call, &mut lists[last]).map_err(wrong)?,
             "pool" => {
                 let words = pool(rest).map_err(wrong)?;
                 (lists[last].trees, lists[last].nodes, _) = decode::counts(&words);
@@ -121,12 +123,20 @@ pub fn read_file(name: &str) -> Result<Vec<List>, String> {
         }
     }
     lists.retain(|l| !l.calls.is_empty());
-    match lists.iter().find(|l| !(1..=32).contains(&l.trees) || l.nodes > 512) {
-        Some(List { trees, nodes, .. }) => {
-            Err(format!("{name}: T is 1 to 32 and N is 0 to 512, not {trees} and {nodes}"))
+    if lists.is_empty() { Err(format!("{name}: expected calls, found none")) } else { Ok(lists) }
+}
+
+/// Reads T, N or both from a line such as `trees 1 nodes 2`.
+fn sizes(line: &str, list: &mut List) -> Result<(), String> {
+    let words: Vec<&str> = line.split_whitespace().collect();
+    for size in words.chunks(2) {
+        match (size[0], size.get(1).and_then(|word| word.parse().ok())) {
+            ("trees", Some(trees @ 1..=32)) => list.trees = trees,
+            ("nodes", Some(nodes @ 0..=512)) => list.nodes = nodes,
+            _ => return Err("`trees T` with T 1 to 32, `nodes N` with N 0 to 512".into()),
         }
-        None => Ok(lists),
     }
+    Ok(())
 }
 
 /// A list without calls yet.
@@ -138,8 +148,8 @@ fn fresh(name: &str) -> List {
 /// The words of a sound pool, with commas between them.
 fn pool(text: &str) -> Result<Vec<u32>, String> {
     let words: Result<Vec<u32>, _> = text.split(',').map(|w| w.trim().parse()).collect();
-    let words = words.map_err(|e| e.to_string())?;
-    sound::check(&words).map_err(|why| format!("the words are not a sound pool: {why}"))?;
+    let words = words.map_err(|e| format!("`pool` and 32-bit numbers between commas ({e})"))?;
+    sound::check(&words).map_err(|why| format!("the words of a sound pool ({why})"))?;
     Ok(words)
 }
 

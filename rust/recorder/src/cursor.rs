@@ -53,17 +53,22 @@ impl Cursor {
     }
 }
 
-/// Prints `tree 0, node 3 place 0, node 1 place 4`, or `tree 0, off the end`.
+/// Prints `tree 0, node 3 place 0, node 1 place 4`, or `tree 0, off the end`. Where a level not in
+/// use holds something, or the size is too large, it prints the size and all that the levels hold.
 impl fmt::Debug for Cursor {
     fn fmt(&self, f: &mut fmt::Formatter<'_>) -> fmt::Result {
         write!(f, "tree {}", self.tree)?;
-        if self.size == 0 {
+        let size = self.size as usize;
+        let held = (0..LEVELS).rev().find(|&l| (self.nodes[l], self.places[l]) != (0, 0));
+        let held = held.map_or(0, |level| level + 1);
+        if size == 0 && held == 0 {
             return f.write_str(", off the end");
         }
-        if self.size as usize > LEVELS {
-            return write!(f, ", size {}", self.size);
+        let clean = held <= size && size <= LEVELS;
+        if !clean {
+            write!(f, ", size {size}")?;
         }
-        let levels = self.nodes.iter().zip(&self.places).take(self.size as usize);
+        let levels = self.nodes.iter().zip(&self.places).take(if clean { size } else { held });
         levels.into_iter().try_for_each(|(node, place)| write!(f, ", node {node} place {place}"))
     }
 }

@@ -83,32 +83,28 @@ impl<'a> Pool<'a> {
 
     /// The value of a key.
     pub fn get(&self, tree: u32, key: u32) -> Result<Found, Refusal> {
-        self.has(tree)?;
-        // SAFETY: the words are sound, lent for the call, and the tree is there.
+        // SAFETY: the words are sound, and lent for the call, which tests the tree number.
         unsafe { raw::recorder_sound_get(self.words.as_ptr(), self.words.len(), tree, key) }.found()
     }
 
     /// Files a value under a key and gives the earlier one. Refused with [`Refusal::NoRoom`] if that
     /// needs more nodes than are free.
     pub fn put(&mut self, tree: u32, key: u32, value: u32) -> Result<Found, Refusal> {
-        self.has(tree)?;
         let (words, len) = self.lend();
-        // SAFETY: the words are sound, lent alone for the call, and the tree is there.
+        // SAFETY: the words are sound, and lent alone for the call, which tests the tree number.
         unsafe { raw::recorder_sound_put(words, len, tree, key, value) }.found()
     }
 
     /// Removes a key and gives the value it had.
     pub fn remove(&mut self, tree: u32, key: u32) -> Result<Found, Refusal> {
-        self.has(tree)?;
         let (words, len) = self.lend();
-        // SAFETY: the words are sound, lent alone for the call, and the tree is there.
+        // SAFETY: the words are sound, and lent alone for the call, which tests the tree number.
         unsafe { raw::recorder_sound_remove(words, len, tree, key) }.found()
     }
 
     /// Goes to the least pair of the cursor's tree; only the tree number is read.
     pub fn first(&self, at: &mut Cursor) -> Result<Met, Refusal> {
-        self.has(at.tree())?;
-        // SAFETY: the words are sound, lent for the call, and the cursor's tree is there.
+        // SAFETY: the words are sound, and lent for the call, which tests the tree number.
         unsafe { raw::recorder_sound_first(self.words.as_ptr(), self.words.len(), *at) }
             .store(at)
             .met()
@@ -117,8 +113,7 @@ impl<'a> Pool<'a> {
     /// Goes to a key of the cursor's tree, or to where it would be put, which may be one past a
     /// leaf's last entry; only the tree number is read.
     pub fn seek(&self, at: &mut Cursor, key: u32) -> Result<Found, Refusal> {
-        self.has(at.tree())?;
-        // SAFETY: the words are sound, lent for the call, and the cursor's tree is there.
+        // SAFETY: the words are sound, and lent for the call, which tests the tree number.
         unsafe { raw::recorder_sound_seek(self.words.as_ptr(), self.words.len(), *at, key) }
             .store(at)
             .found()
@@ -222,7 +217,7 @@ impl fmt::Debug for Tree<'_> {
 /// }
 /// # Ok::<(), recorder::Refusal>(())
 /// ```
-#[derive(Clone, Debug)]
+#[derive(Clone)]
 pub struct Pairs<'p> {
     /// Sound, with the cursor's tree in them.
     words: &'p [u32],
@@ -244,3 +239,14 @@ impl Iterator for Pairs<'_> {
 }
 
 impl FusedIterator for Pairs<'_> {}
+
+/// Prints `pairs of tree 0, not begun`, or where it is: `pairs of tree 0, node 3 place 0, node 1 place 4`.
+impl fmt::Debug for Pairs<'_> {
+    fn fmt(&self, f: &mut fmt::Formatter<'_>) -> fmt::Result {
+        if self.begun {
+            write!(f, "pairs of {:?}", self.at)
+        } else {
+            write!(f, "pairs of tree {}, not begun", self.at.tree())
+        }
+    }
+}

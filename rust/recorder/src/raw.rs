@@ -67,7 +67,7 @@ extern "C" {
     pub fn recorder_prev(words: *const u32, len: usize, at: Cursor) -> Moved;
     pub fn recorder_remove_at(words: *mut u32, len: usize, at: Cursor) -> Moved;
 
-    // For sound words. They test the tree number too, which `Pool` does before.
+    // For sound words. They test the tree number.
     pub fn recorder_sound_get(words: *const u32, len: usize, tree: u32, key: u32) -> Answer;
     pub fn recorder_sound_put(words: *mut u32, len: usize, tree: u32, key: u32, value: u32) -> Answer;
     pub fn recorder_sound_remove(words: *mut u32, len: usize, tree: u32, key: u32) -> Answer;

@@ -198,6 +198,31 @@ fn printed_pools() {
 }
 
 #[test]
+fn printed_cursors_that_do_not_stand() {
+    let levels = |at: usize, n: u32| std::array::from_fn(|i| if i == at { n } else { 0 });
+    let printed = |size, nodes, places| format!("{:?}", Cursor::of_parts(1, size, nodes, places));
+    assert_eq!(printed(0, levels(0, 5), [0; 16]), "tree 1, size 0, node 5 place 0");
+    assert_eq!(
+        printed(1, levels(0, 5), levels(1, 2)),
+        "tree 1, size 1, node 5 place 0, node 0 place 2"
+    );
+    assert_eq!(printed(17, levels(0, 5), [0; 16]), "tree 1, size 17, node 5 place 0");
+    assert_eq!(printed(1, [0; 16], [0; 16]), "tree 1, node 0 place 0");
+}
+
+#[test]
+fn printed_iterators() {
+    let mut words = b(3).words().to_vec();
+    let pool = Pool::open(&mut words).expect("the words are sound");
+    let mut pairs = pool.iter(0).expect("the tree is there");
+    assert_eq!(format!("{pairs:?}"), "pairs of tree 0, not begun");
+    assert_eq!(pairs.nth(4), Some((40, value_of(40))));
+    assert_eq!(format!("{pairs:?}"), "pairs of tree 0, node 3 place 1, node 2 place 0");
+    assert_eq!(pairs.by_ref().count(), 3);
+    assert_eq!(format!("{pairs:?}"), "pairs of tree 0, off the end");
+}
+
+#[test]
 fn printed_levels() {
     let mut bench = Bench::with(20, 1..=24);
     let leaves = "1,2,3,4 / 5,6,7,8 / 9,10,11,12 / 13,14,15,16 / 17,18,19,20 / 21,22,23,24";

@@ -30,11 +30,14 @@ struct Wish {
     at_least: u64,
     seed: u64,
     out: PathBuf,
+    /// `--source` and `--mode` of the command, to be told with a difference.
+    source: String,
+    mode: String,
 }
 
 fn main() -> ExitCode {
-    let wish = match wish() {
-        Ok(wish) => wish,
+    let (wish, lists) = match wish().and_then(|wish| Ok((lists(&wish)?, wish))) {
+        Ok((lists, wish)) => (wish, lists),
         Err(why) => {
             eprintln!("judge: {why}");
             return ExitCode::from(2);
@@ -44,7 +47,7 @@ fn main() -> ExitCode {
     let done = caught::caught(|| match wish.what.as_str() {
         "--both" => both(&wish),
         "--faults" => faults::all(),
-        _ => file(&wish),
+        _ => file(&wish, &lists),
     });
     match done {
         Ok(Ok(())) => ExitCode::SUCCESS,
@@ -63,6 +66,8 @@ fn wish() -> Result<Wish, String> {
         at_least: 1_000_000,
         seed: 1,
         out: "target/judge".into(),
+        source: String::new(),
+        mode: String::new(),
     };
     let mut words = std::env::args().skip(1);
     while let Some(word) = words.next() {
@@ -74,10 +79,17 @@ fn wish() -> Result<Wish, String> {
             "--calls-at-least" => out.at_least = number(next()?)?,
             "--seed" => out.seed = number(next()?)?,
             "--out" => out.out = next()?.into(),
+            "--source" => out.source = next()?,
+            "--mode" => out.mode = next()?,
             _ => return Err(format!("unknown word: {word}")),
         }
     }
     Ok(out)
+}
+
+/// The lists of the file that is named, if one is.
+fn lists(wish: &Wish) -> Result<Vec<List>, String> {
+    if wish.what == "--both-calls" { text::read_file(&wish.name) } else { Ok(Vec::new()) }
 }
 
 /// The intended differences, the faults that must be found, then lists and mixes until there are
@@ -85,7 +97,7 @@ fn wish() -> Result<Wish, String> {
 fn both(wish: &Wish) -> Result<(), String> {
     differences::all()?;
     faults::all()?;
-    let mut run = Run { wish, tally: Tally::default(), told: Instant::now() };
+    let mut run = Run::new(wish);
     for list in short::lists().chain(lists::all()) {
         run.list(&list, NOW_AND_THEN)?;
         run.tally.lists += 1;
@@ -93,9 +105,9 @@ fn both(wish: &Wish) -> Result<(), String> {
     for list in mixes::made(wish.seed) {
         run.list(&list, NOW_AND_THEN)?;
     }
-    let half = run.tally.done() + wish.at_least / 2;
+    run.goal = wish.at_least.max(run.tally.done() + wish.at_least / 2);
     for index in 0.. {
-        if run.tally.done() >= wish.at_least.max(half) {
+        if run.tally.done() >= run.goal {
             break;
         }
         run.list(&mixes::mix(wish.seed, index), NOW_AND_THEN)?;
@@ -116,13 +128,13 @@ fn both(wish: &Wish) -> Result<(), String> {
 }
 
 /// The lists of a file, each call printed with what was due.
-fn file(wish: &Wish) -> Result<(), String> {
-    let mut run = Run { wish, tally: Tally::default(), told: Instant::now() };
-    for list in text::read_file(&wish.name)? {
+fn file(wish: &Wish, lists: &[List]) -> Result<(), String> {
+    let mut run = Run::new(wish);
+    for list in lists {
         println!("run {}\ntrees {}\nnodes {}", list.name, list.trees, list.nodes);
         let print = |call: &_, due: &sides::Due| println!("{call} -> {due}");
-        let played = play(&list, EACH_CALL, &mut run.tally, print);
-        played.map_err(|found| said(&list, &found))?;
+        let played = play(list, EACH_CALL, &mut run.tally, print);
+        played.map_err(|found| said(list, &found))?;
     }
     println!("both sides: {} calls: 0 differences", run.tally.all());
     Ok(())
@@ -131,15 +143,22 @@ fn file(wish: &Wish) -> Result<(), String> {
 /// A run over lists.
 struct Run<'a> {
     wish: &'a Wish,
+    /// Calls that both sides are to do.
+    goal: u64,
     tally: Tally,
     told: Instant,
 }
 
 impl Run<'_> {
+    fn new(wish: &Wish) -> Run<'_> {
+        Run { wish, goal: wish.at_least, tally: Tally::default(), told: Instant::now() }
+    }
+
     /// Plays a list. A difference is reported, and the calls that lead to it are written out.
     fn list(&mut self, list: &List, often: Often) -> Result<(), String> {
         if self.told.elapsed() > Duration::from_secs(5) {
-            eprintln!("judge: {} calls so far, now {}", self.tally.all(), list.name);
+            let (done, goal) = (self.tally.done(), self.goal);
+            eprintln!("judge: {done} of {goal} calls done by both sides, now {}", list.name);
             self.told = Instant::now();
         }
         let played = play(list, often, &mut self.tally, |_, _| {});
@@ -155,9 +174,11 @@ impl Run<'_> {
         let short = cut::write(folder, "difference.txt", &cut::cut(&whole));
         format!(
             "{}\n  the seed: {}\n  the calls up to it: {kept}\n  cut down: {short}\n  \
-             again: rust/judge/run --both --calls {}",
+             again: rust/judge/run --source {} --mode {} --both --calls {}",
             said(list, found),
             self.wish.seed,
+            self.wish.source,
+            self.wish.mode,
             folder.join("difference.txt").display()
         )
     }
