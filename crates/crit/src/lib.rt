@@ -96,7 +96,7 @@ pub fn update_crit_key(ws: &mut [u32], t: usize, c: Cursor, level: usize, key: u
     pool::store(ws, t, n, w);
 }
 
-// The key before the node at a level becomes that before its right sibling.
+// The key before the right sibling of the node at a level becomes the one before the node, if it has one.
 pub fn hand_crit_key(ws: &mut [u32], t: usize, c: Cursor, level: usize)
     requires { ⌜ Way (now ws) t c level ⌝ }
     ensures { λ _. ⌜ Leaves (λ s. stored s (handKey (s .st) (s .ns) (s .ps) level)) (now (ws .entry)) (now (ws .exit)) t c c ⌝ }

@@ -30,7 +30,7 @@ module _ {Call State Answer : Type 0} (k : Kind Call State Answer) where
   abbrev pub mine : ℕ → Call → State → Bool
   mine t c p = eqb (k .target c) t && k .kept c p
 
-  -- the calls of tree t, those that are refused struck out
+  -- the calls of tree t that are kept, the others struck out
   abbrev pub ownCalls : ℕ → List Call → State → List Call
   ownCalls t [] p = []
   ownCalls t (c ∷ cs) p = cond (mine t c p) (c ∷ ownCalls t cs (k .next c p)) (ownCalls t cs (k .next c p))

@@ -202,7 +202,7 @@ fn cut_leaf(ws: &mut [u32], t: usize, c: Cursor, level: usize) -> Removed
     cut.status
 }
 
-// The front pair of the leaf went, and another is the first: the key before the leaf is that one's.
+// If the front pair of the leaf went and another is the first, the key before the leaf becomes that one's.
 fn update_front(ws: &mut [u32], t: usize, c: Cursor, level: usize)
     requires { ⌜ AskFront (now ws) t c level ⌝ }
     ensures { λ _. ⌜ Leaves (λ s. fronted leafOps leafCap innerOps leafFront s level) (now (ws .entry)) (now (ws .exit)) t c c ⌝ }
