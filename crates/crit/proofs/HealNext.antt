@@ -37,7 +37,7 @@ pub shape-numbers : {Ss Ss′ : List Row} → HealStack.SameShape Ss Ss′ → n
 shape-numbers HealStack.none = refl
 shape-numbers (HealStack.also a b r) = rw (a, shape-numbers r)
 
-pub path-shape : (R R′ : Row) (j : ℕ) {Ss Ss′ : List Row} (ns ps : ℕ → ℕ) → HealRows.numAt R j ≡ HealRows.numAt R′ j → HealStack.SameShape Ss Ss′ → HealPath.Path R j Ss ns ps → HealPath.Path R′ j Ss′ ns ps
+pub path-shape : (R R′ : Row) (j : ℕ) {Ss Ss′ : List Row} (ns ps : ℕ → ℕ) → HealRows.numAt R j ≡ HealRows.numAt R′ j → HealStack.SameShape Ss Ss′ → HealPath.Leads R j Ss ns ps → HealPath.Leads R′ j Ss′ ns ps
 path-shape R R′ j ns ps e HealStack.none p = p ∙ e
 path-shape R R′ j ns ps e (HealStack.also {S} {S′} {Ss} {Ss′} a b r) p =
     let l = shape-length r in (
@@ -47,7 +47,7 @@ path-shape R R′ j ns ps e (HealStack.also {S} {S′} {Ss} {Ss′} a b r) p =
     )
 
 -- a path reads no deeper than its row
-pub path-deeper : (R : Row) (j : ℕ) (Ss : List Row) (ns ps ns′ ps′ : ℕ → ℕ) → ((l : ℕ) → l ≤ length Ss → ns′ l ≡ ns l) → ((l : ℕ) → l < length Ss → ps′ l ≡ ps l) → HealPath.Path R j Ss ns ps → HealPath.Path R j Ss ns′ ps′
+pub path-deeper : (R : Row) (j : ℕ) (Ss : List Row) (ns ps ns′ ps′ : ℕ → ℕ) → ((l : ℕ) → l ≤ length Ss → ns′ l ≡ ns l) → ((l : ℕ) → l < length Ss → ps′ l ≡ ps l) → HealPath.Leads R j Ss ns ps → HealPath.Leads R j Ss ns′ ps′
 path-deeper R j [] ns ps ns′ ps′ a b p = a 0 (omega arith) ∙ p
 path-deeper R j (S ∷ Ss) ns ps ns′ ps′ a b p = (
   a (suc (length Ss)) (omega arith) ∙ p .0,
@@ -65,8 +65,8 @@ module _ (st : HealMem.Store) (ns ps : ℕ → ℕ) where
         simp e ((λ q. simp (ne-eqb x (suc l) (omega arith)) (z .0 (omega arith))), (λ q. simp (ne-eqb x l (omega arith)) (z .1 (omega arith))))
   ]
 
-  pub next-path : (R : Row) (j : ℕ) (Ss : List Row) → suc j < length R → HealStack.Stacked R Ss → HealMem.HoldsUp st Ss → HealPath.Path R j Ss ns ps →
-      HealPath.Path R (suc j) Ss ((nextAt st ns ps (length Ss)) .0) ((nextAt st ns ps (length Ss)) .1)
+  pub next-path : (R : Row) (j : ℕ) (Ss : List Row) → suc j < length R → HealStack.Stacked R Ss → HealMem.HoldsUp st Ss → HealPath.Leads R j Ss ns ps →
+      HealPath.Leads R (suc j) Ss ((nextAt st ns ps (length Ss)) .0) ((nextAt st ns ps (length Ss)) .1)
   next-path R j [] h s hu p = absurd (omega arith)
   next-path R j (S ∷ Ss) h s hu p =
       let u : sum (sizes S) ≡ length R = HealStack.stacked-sum R S (s .0) in

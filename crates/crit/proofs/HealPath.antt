@@ -22,7 +22,7 @@ use Rattle.crit.proofs.HealMem.{Store, put, Keeps, Once, once-append, H
 use Rattle.forest.proofs.CountLaws.{length-pad, set-pad}
 use Rattle.forest.proofs.Descent.{front-first}
 pub use Rattle.node.proofs.Words.{inner-first, inner-key, inner-child}
-pub use Rattle.crit.specs.Paths.{Path}
+pub use Rattle.crit.specs.Paths.{Leads}
 pub use Rattle.crit.specs.States.{more, rightSibling, critKey, rightSet, leftSet}
 use Rattle.forest.proofs.WordLaws.{count-append}
 
@@ -56,7 +56,7 @@ pub inner-key′ : (o : ℕ) (xs : List Item) → (o ≡ 0 → ⊥) → o < leng
 inner-key′ zero xs n h l = absurd (n refl)
 inner-key′ (suc o) xs n h l = inner-key xs o (omega arith)
 
-pub path-node : (R : Row) (j : ℕ) (Ss : List Row) (ns ps : ℕ → ℕ) → Path R j Ss ns ps → ns (length Ss) ≡ numAt R j
+pub path-node : (R : Row) (j : ℕ) (Ss : List Row) (ns ps : ℕ → ℕ) → Leads R j Ss ns ps → ns (length Ss) ≡ numAt R j
 path-node R j [] ns ps p = p
 path-node R j (S ∷ Ss) ns ps p = p .0
 
@@ -70,7 +70,7 @@ module _ (st : Store) (ns ps : ℕ → ℕ) where
     pub words : st (ns l) ≡ innerWords (itemsAt S (parent (sizes S) i))
     pub place : ps l ≡ offset (sizes S) i
 
-  pub here : (S : Row) (Ss : List Row) (i : ℕ) → i < sum (sizes S) → Fill 4 8 (sizes S) → Holds innerWords st S → ps (length Ss) ≡ offset (sizes S) i → Path S (parent (sizes S) i) Ss ns ps → Here S i (length Ss)
+  pub here : (S : Row) (Ss : List Row) (i : ℕ) → i < sum (sizes S) → Fill 4 8 (sizes S) → Holds innerWords st S → ps (length Ss) ≡ offset (sizes S) i → Leads S (parent (sizes S) i) Ss ns ps → Here S i (length Ss)
   here S Ss i b f hs q p =
       let pl : parent (sizes S) i < length S = parent-there S i b in
       let e = length-items S (parent (sizes S) i) in
@@ -93,7 +93,7 @@ module _ (st : Store) (ns ps : ℕ → ℕ) where
       ]
 
   -- the key of the right neighbour changes in all rows: one word changes
-  pub rightSet-keeps : (R : Row) (j k : ℕ) (Ss : List Row) → j < length R → Stacked R Ss → HoldsUp st Ss → Path R j Ss ns ps → Keeps st (rightSet st ns ps (length Ss) k) (numbers Ss)
+  pub rightSet-keeps : (R : Row) (j k : ℕ) (Ss : List Row) → j < length R → Stacked R Ss → HoldsUp st Ss → Leads R j Ss ns ps → Keeps st (rightSet st ns ps (length Ss) k) (numbers Ss)
   rightSet-keeps R j k [] h s hs p x c = refl
   rightSet-keeps R j k (S ∷ Ss) h s hs p x c =
       let u : sum (sizes S) ≡ length R = stacked-sum R S (s .0) in
@@ -106,7 +106,7 @@ module _ (st : Store) (ns ps : ℕ → ℕ) where
         | isnt e ↦ simp e (rightSet-keeps S (parent (sizes S) j) k Ss (r .par) (s .2) (hs .1) (p .2) x (omega arith))
       ]
 
-  pub rightSet-holds : (R : Row) (j k : ℕ) (Ss : List Row) → suc j < length R → Stacked R Ss → Once (numbers Ss) → HoldsUp st Ss → Path R j Ss ns ps →
+  pub rightSet-holds : (R : Row) (j k : ℕ) (Ss : List Row) → suc j < length R → Stacked R Ss → Once (numbers Ss) → HoldsUp st Ss → Leads R j Ss ns ps →
       HoldsUp (rightSet st ns ps (length Ss) k) (setKey (suc j) k Ss)
   rightSet-holds R j k [] h s o hs p = tt
   rightSet-holds R j k (S ∷ Ss) h s o hs p =
@@ -141,7 +141,7 @@ module _ (st : Store) (ns ps : ℕ → ℕ) where
       ]
 
   -- the key of the node itself changes in all rows: one word changes, none at the far left
-  pub leftSet-keeps : (R : Row) (j k : ℕ) (Ss : List Row) → j < length R → Stacked R Ss → HoldsUp st Ss → Path R j Ss ns ps → Keeps st (leftSet st ns ps (length Ss) k) (numbers Ss)
+  pub leftSet-keeps : (R : Row) (j k : ℕ) (Ss : List Row) → j < length R → Stacked R Ss → HoldsUp st Ss → Leads R j Ss ns ps → Keeps st (leftSet st ns ps (length Ss) k) (numbers Ss)
   leftSet-keeps R j k [] h s hs p x c = refl
   leftSet-keeps R j k (S ∷ Ss) h s hs p x c =
       let u : sum (sizes S) ≡ length R = stacked-sum R S (s .0) in
@@ -154,7 +154,7 @@ module _ (st : Store) (ns ps : ℕ → ℕ) where
             (rw (path-node S (parent (sizes S) j) Ss ns ps (p .2)) (numAt-counts S (parent (sizes S) j) (r .par))) x (omega arith))
       ]
 
-  pub leftSet-holds : (R : Row) (j k : ℕ) (Ss : List Row) → j < length R → Stacked R Ss → Once (numbers Ss) → HoldsUp st Ss → Path R j Ss ns ps →
+  pub leftSet-holds : (R : Row) (j k : ℕ) (Ss : List Row) → j < length R → Stacked R Ss → Once (numbers Ss) → HoldsUp st Ss → Leads R j Ss ns ps →
       HoldsUp (leftSet st ns ps (length Ss) k) (setKey j k Ss)
   leftSet-holds R j k [] h s o hs p = tt
   leftSet-holds R j k (S ∷ Ss) h s o hs p =
@@ -185,7 +185,7 @@ module _ (st : Store) (ns ps : ℕ → ℕ) where
       ]
 
   -- the right neighbour is the next of the row, with its key
-  pub right-is : (R : Row) (j : ℕ) (Ss : List Row) → suc j < length R → Stacked R Ss → HoldsUp st Ss → Path R j Ss ns ps →
+  pub right-is : (R : Row) (j : ℕ) (Ss : List Row) → suc j < length R → Stacked R Ss → HoldsUp st Ss → Leads R j Ss ns ps →
       rightSibling st ns ps (length Ss) ≡ some (getD (line R) (suc j) (0, 0))
   right-is R j [] h s hs p = absurd (omega arith)
   right-is R j (S ∷ Ss) h s hs p =
@@ -223,7 +223,7 @@ module _ (st : Store) (ns ps : ℕ → ℕ) where
       whole [] h = absurd (omega arith)
       whole (x ∷ xs) h = refl
 
-  pub right-none : (R : Row) (j : ℕ) (Ss : List Row) → suc j ≡ length R → Stacked R Ss → HoldsUp st Ss → Path R j Ss ns ps → rightSibling st ns ps (length Ss) ≡ none
+  pub right-none : (R : Row) (j : ℕ) (Ss : List Row) → suc j ≡ length R → Stacked R Ss → HoldsUp st Ss → Leads R j Ss ns ps → rightSibling st ns ps (length Ss) ≡ none
   right-none R j [] h s hs p = refl
   right-none R j (S ∷ Ss) h s hs p =
       let u : sum (sizes S) ≡ length R = stacked-sum R S (s .0) in
@@ -233,7 +233,7 @@ module _ (st : Store) (ns ps : ℕ → ℕ) where
       simp (e, right-none S (parent (sizes S) j) Ss (z .1 ∙ length-map S size) (s .2) (hs .1) (p .2))
 
   -- the critical key is the front of the node; at the far left there is none
-  pub crit-is : (R : Row) (j : ℕ) (Ss : List Row) → suc j < length R → Stacked R Ss → HoldsUp st Ss → Path R (suc j) Ss ns ps → critKey st ns ps (length Ss) ≡ some (front (itemsAt R (suc j)))
+  pub crit-is : (R : Row) (j : ℕ) (Ss : List Row) → suc j < length R → Stacked R Ss → HoldsUp st Ss → Leads R (suc j) Ss ns ps → critKey st ns ps (length Ss) ≡ some (front (itemsAt R (suc j)))
   crit-is R j [] h s hs p = absurd (omega arith)
   crit-is R j (S ∷ Ss) h s hs p =
       let u : sum (sizes S) ≡ length R = stacked-sum R S (s .0) in
@@ -253,7 +253,7 @@ module _ (st : Store) (ns ps : ℕ → ℕ) where
             simp (t, crit-is S (parent (sizes S) j) Ss n2 (s .2) (hs .1) (rw y at (p .2))) (ap some (front-first (itemsAt S (suc (parent (sizes S) j))) one ∙ k′))
       ]
 
-  pub crit-none : (R : Row) (Ss : List Row) → 1 ≤ length R → Stacked R Ss → HoldsUp st Ss → Path R 0 Ss ns ps → critKey st ns ps (length Ss) ≡ none
+  pub crit-none : (R : Row) (Ss : List Row) → 1 ≤ length R → Stacked R Ss → HoldsUp st Ss → Leads R 0 Ss ns ps → critKey st ns ps (length Ss) ≡ none
   crit-none R [] h s hs p = refl
   crit-none R (S ∷ Ss) h s hs p =
       let u : sum (sizes S) ≡ length R = stacked-sum R S (s .0) in

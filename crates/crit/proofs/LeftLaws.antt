@@ -11,13 +11,13 @@ use borrow.Author.Tests.{eq-eqb, ne-eqb}
 use Rattle.forest.specs.declared.Cursor.{Cursor}
 use Rattle.pool.specs.Stores.{block, withBlock}
 use Rattle.crit.specs.States.{stored, rightSet, leftSet, critKey, handKey}
-use Rattle.crit.specs.Asks.{Mem, moved, Spelt, Way, Leaves, Crits, critOf}
+use Rattle.crit.specs.Asks.{Mem, moved, Spelt, Route, Leaves, Crits, critOf}
 use Rattle.crit.specs.declared.Crit.{Crit}
 use Rattle.crit.specs.declared.Crit.the-variants.{Key, Nothing}
 use Rattle.crit.proofs.SpeltLaws.{spelt-store}
 use Rattle.crit.proofs.WayLaws.{way-at, way-block}
 
-module _ {ws : List ℕ} {t : ℕ} {c : Cursor} {level : ℕ} (y : Way ws t c level) (l : ℕ) (e : suc l ≡ level) where
+module _ {ws : List ℕ} {t : ℕ} {c : Cursor} {level : ℕ} (y : Route ws t c level) (l : ℕ) (e : suc l ≡ level) where
   first-yes : (m : Mem) → Spelt ws t c m → getD (c .places) l 0 ≡ 0 → eqb (m .s .ps l) 0 ≡ true
   first-yes m sp h = eq-eqb (m .s .ps l) 0 (sym (sp .places l (omega (arith, y .deep))) ∙ h)
 

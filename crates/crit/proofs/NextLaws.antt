@@ -16,8 +16,8 @@ use Rattle.forest.specs.declared.Cursor.{Cursor}
 use Rattle.forest.proofs.ListLaws.{is, isnt, test}
 use Rattle.pool.specs.Stores.{block, Placed}
 use Rattle.crit.specs.States.{State, at, more, rightSibling, nextAt, nextPath, nextNode, nextWith, nodeAt, lives}
-use Rattle.crit.specs.Paths.{numAt, Stacked, HoldsUp, Path}
-use Rattle.crit.specs.Asks.{Mem, moved, Spelt, Way, Goes, Leaves, Finds, nearOf, Passes}
+use Rattle.crit.specs.Paths.{numAt, Stacked, HoldsUp, Leads}
+use Rattle.crit.specs.Asks.{Mem, moved, Spelt, Route, RightRoute, Leaves, Finds, nearOf, Passes}
 use Rattle.crit.specs.declared.Near.{Near}
 use Rattle.crit.specs.declared.Near.the-variants.{Right, Nothing}
 use Rattle.crit.proofs.HealStack
@@ -66,7 +66,7 @@ spelt-off sp a b tr z = record {
   size = z;
 }
 
-module _ {ws : List ℕ} {t : ℕ} {c : Cursor} {level : ℕ} (g : Goes ws t c level) (l : ℕ) (e : suc l ≡ level) where
+module _ {ws : List ℕ} {t : ℕ} {c : Cursor} {level : ℕ} (g : RightRoute ws t c level) (l : ℕ) (e : suc l ≡ level) where
   -- the next node is to the right in the same parent
   pub path-here : (w : List ℕ) (p : ℕ) (d : Cursor) → w ≡ block ws t (getD (c .nodes) l 0) → p ≡ getD (c .places) l 0 → p + 16 < getD w 0 0 →
       d .nodes ≡ set (c .nodes) level (getD w (9 + p) 0) → d .places ≡ set (c .places) l (p + 1) → d .tree ≡ c .tree → d .size ≡ c .size → Leaves (nextPath level) ws ws t c d
@@ -90,7 +90,7 @@ module _ {ws : List ℕ} {t : ℕ} {c : Cursor} {level : ℕ} (g : Goes ws t c l
   none-right : (w : List ℕ) (p : ℕ) → w ≡ block ws t (getD (c .nodes) l 0) → p ≡ getD (c .places) l 0 → getD w 0 0 ≤ p + 16 → more (g .way .mem .s .st) (g .way .mem .s .ns) (g .way .mem .s .ps) l ≡ false
   none-right w p q a h = more-no (g .way) l e (g .way .mem) (g .way .spelt) (rw (q, a) at h)
 
-  crossed : (S : Row) (Ss : List Row) → l ≡ length Ss → Stacked (g .way .row) (S ∷ Ss) → HoldsUp (g .way .mem .s .st) (S ∷ Ss) → Path (g .way .row) (g .way .at) (S ∷ Ss) (g .way .mem .s .ns) (g .way .mem .s .ps) →
+  crossed : (S : Row) (Ss : List Row) → l ≡ length Ss → Stacked (g .way .row) (S ∷ Ss) → HoldsUp (g .way .mem .s .st) (S ∷ Ss) → Leads (g .way .row) (g .way .at) (S ∷ Ss) (g .way .mem .s .ns) (g .way .mem .s .ps) →
       more (g .way .mem .s .st) (g .way .mem .s .ns) (g .way .mem .s .ps) l ≡ false → suc (parent (sizes S) (g .way .at)) < length S
   crossed S Ss z s u p mo =
       let b : sum (sizes S) ≡ length (g .way .row) = HealStack.stacked-sum (g .way .row) S (s .0) in
@@ -106,11 +106,11 @@ module _ {ws : List ℕ} {t : ℕ} {c : Cursor} {level : ℕ} (g : Goes ws t c l
         | HealStack.across x v w ↦ rw v at (parent-there S (suc (g .way .at)) (omega (arith, g .more)))
       ]
 
-  pub goes-up : (w : List ℕ) (p : ℕ) → w ≡ block ws t (getD (c .nodes) l 0) → p ≡ getD (c .places) l 0 → getD w 0 0 ≤ p + 16 → Goes ws t c l
+  pub goes-up : (w : List ℕ) (p : ℕ) → w ≡ block ws t (getD (c .nodes) l 0) → p ≡ getD (c .places) l 0 → getD w 0 0 ≤ p + 16 → RightRoute ws t c l
   goes-up w p q a h = from (g .way .rows) (g .way .levels) (g .way .stacked) (g .way .named) (g .way .up) (g .way .path)
     where
       from : (rows : List Row) → length rows ≡ level → Stacked (g .way .row) rows → ((x : ℕ) → 1 ≤ count x (numbers rows) → (1 ≤ x) × (x ≤ g .way .mem .count)) → HoldsUp (g .way .mem .s .st) rows →
-          Path (g .way .row) (g .way .at) rows (g .way .mem .s .ns) (g .way .mem .s .ps) → Goes ws t c l
+          Leads (g .way .row) (g .way .at) rows (g .way .mem .s .ns) (g .way .mem .s .ps) → RightRoute ws t c l
       from [] z s nm u r = absurd (omega arith)
       from (S ∷ Ss) z s nm u r =
           let b : sum (sizes S) ≡ length (g .way .row) = HealStack.stacked-sum (g .way .row) S (s .0) in
@@ -137,7 +137,7 @@ module _ {ws : List ℕ} {t : ℕ} {c : Cursor} {level : ℕ} (g : Goes ws t c l
   next-inside d mo f = from (g .way .rows) (g .way .levels) (g .way .stacked) (g .way .named) (g .way .up) (g .way .path)
     where
       from : (rows : List Row) → length rows ≡ level → Stacked (g .way .row) rows → ((x : ℕ) → 1 ≤ count x (numbers rows) → (1 ≤ x) × (x ≤ g .way .mem .count)) → HoldsUp (g .way .mem .s .st) rows →
-          Path (g .way .row) (g .way .at) rows (g .way .mem .s .ns) (g .way .mem .s .ps) → (1 ≤ getD (d .nodes) l 0) × (getD (d .nodes) l 0 ≤ g .way .mem .count)
+          Leads (g .way .row) (g .way .at) rows (g .way .mem .s .ns) (g .way .mem .s .ps) → (1 ≤ getD (d .nodes) l 0) × (getD (d .nodes) l 0 ≤ g .way .mem .count)
       from [] z s nm u r = absurd (omega arith)
       from (S ∷ Ss) z s nm u r =
           let q : l ≡ length Ss = omega arith in
@@ -175,7 +175,7 @@ path-root zero h = record { run = λ m sp. sp }
 path-root (suc l) h = absurd (omega arith)
 
 -- next_node
-pub goes-right : {ws : List ℕ} {t : ℕ} {c : Cursor} {level : ℕ} (y : Way ws t c level) (near : Near) (k n : ℕ) → Finds ws t c level near → near ≡ Right k n → Goes ws t c level
+pub goes-right : {ws : List ℕ} {t : ℕ} {c : Cursor} {level : ℕ} (y : Route ws t c level) (near : Near) (k n : ℕ) → Finds ws t c level near → near ≡ Right k n → RightRoute ws t c level
 goes-right {level} y near k n f x = elim (test (ltb (suc (y .at)) (length (y .row)))) [
   | is e ↦ record { way = y; more = ltb-true _ _ e }
   | isnt e ↦

@@ -10,13 +10,13 @@ use borrow.Author.Tests.{lt-ltb, le-ltb}
 use Rattle.forest.specs.declared.Cursor.{Cursor}
 use Rattle.pool.specs.Stores.{block, withBlock, Placed}
 use Rattle.crit.specs.States.{stored, more, rightSibling, rightSet}
-use Rattle.crit.specs.Asks.{Mem, moved, Spelt, Way, Leaves, Finds, nearOf}
+use Rattle.crit.specs.Asks.{Mem, moved, Spelt, Route, Leaves, Finds, nearOf}
 use Rattle.crit.specs.declared.Near.{Near}
 use Rattle.crit.specs.declared.Near.the-variants.{Right, Nothing}
 use Rattle.crit.proofs.SpeltLaws.{spelt-block, spelt-placed, spelt-store, same-count}
 use Rattle.crit.proofs.WayLaws.{way-at, way-block, way-right}
 
-module _ {ws : List ℕ} {t : ℕ} {c : Cursor} {level : ℕ} (y : Way ws t c level) (l : ℕ) (e : suc l ≡ level) where
+module _ {ws : List ℕ} {t : ℕ} {c : Cursor} {level : ℕ} (y : Route ws t c level) (l : ℕ) (e : suc l ≡ level) where
   -- is there more to the right, by the words
   pub more-yes : (m : Mem) → Spelt ws t c m → getD (c .places) l 0 + 16 < getD (block ws t (getD (c .nodes) l 0)) 0 0 → more (m .s .st) (m .s .ns) (m .s .ps) l ≡ true
   more-yes m sp h =

@@ -16,8 +16,8 @@ use Rattle.forest.specs.declared.Cursor.{Cursor}
 use Rattle.forest.proofs.ListLaws.{is, isnt, test}
 use Rattle.pool.specs.Stores.{Store, block, Placed}
 use Rattle.crit.specs.States.{rightSibling}
-use Rattle.crit.specs.Paths.{numAt, Stacked, HoldsUp, Path}
-use Rattle.crit.specs.Asks.{Mem, Spelt, Way}
+use Rattle.crit.specs.Paths.{numAt, Stacked, HoldsUp, Leads}
+use Rattle.crit.specs.Asks.{Mem, Spelt, Route}
 use Rattle.crit.proofs.HealStack
 use Rattle.crit.proofs.HealMem
 use Rattle.crit.proofs.HealRows
@@ -43,7 +43,7 @@ named-row N R Rs nm j h =
 pub named-rest : (N : ℕ) (R : Row) (Rs : List Row) → ((x : ℕ) → 1 ≤ count x (numbers (R ∷ Rs)) → (1 ≤ x) × (x ≤ N)) → (x : ℕ) → 1 ≤ count x (numbers Rs) → (1 ≤ x) × (x ≤ N)
 named-rest N R Rs nm x h = nm x (omega (arith, count-append x (nums R) (numbers Rs)))
 
-pub path-inside : (N : ℕ) (st : Store) (R : Row) (j : ℕ) (Ss : List Row) (ns ps : ℕ → ℕ) → j < length R → Stacked R Ss → ((x : ℕ) → 1 ≤ count x (numbers Ss) → (1 ≤ x) × (x ≤ N)) → HoldsUp st Ss → Path R j Ss ns ps →
+pub path-inside : (N : ℕ) (st : Store) (R : Row) (j : ℕ) (Ss : List Row) (ns ps : ℕ → ℕ) → j < length R → Stacked R Ss → ((x : ℕ) → 1 ≤ count x (numbers Ss) → (1 ≤ x) × (x ≤ N)) → HoldsUp st Ss → Leads R j Ss ns ps →
     (l : ℕ) → l < length Ss → Inside st N (ns l) (ps l)
 path-inside N st R j [] ns ps h s nm hu p l b = absurd (omega arith)
 path-inside N st R j (S ∷ Ss) ns ps h s nm hu p l b =
@@ -68,7 +68,7 @@ path-inside N st R j (S ∷ Ss) ns ps h s nm hu p l b =
     ]
 
 -- a right neighbour below the rows is one of the row's numbers
-pub right-inside : (N : ℕ) (st : Store) (R : Row) (j : ℕ) (Ss : List Row) (ns ps : ℕ → ℕ) → j < length R → Stacked R Ss → ((i : ℕ) → i < length R → (1 ≤ numAt R i) × (numAt R i ≤ N)) → HoldsUp st Ss → Path R j Ss ns ps →
+pub right-inside : (N : ℕ) (st : Store) (R : Row) (j : ℕ) (Ss : List Row) (ns ps : ℕ → ℕ) → j < length R → Stacked R Ss → ((i : ℕ) → i < length R → (1 ≤ numAt R i) × (numAt R i ≤ N)) → HoldsUp st Ss → Leads R j Ss ns ps →
     (x : Item) → rightSibling st ns ps (length Ss) ≡ some x → (1 ≤ x .1) × (x .1 ≤ N)
 right-inside N st R j Ss ns ps h s nm hu p x e = elim (test (ltb (suc j) (length R))) [
   | is f ↦
@@ -83,7 +83,7 @@ right-inside N st R j Ss ns ps h s nm hu p x e = elim (test (ltb (suc j) (length
       absurd (let z : _≡_ {A = ℕ} 0 1 = cc (r, e) in omega arith)
 ]
 
-module _ {ws : List ℕ} {t : ℕ} {c : Cursor} {level : ℕ} (y : Way ws t c level) where
+module _ {ws : List ℕ} {t : ℕ} {c : Cursor} {level : ℕ} (y : Route ws t c level) where
   -- the node at a level above, for every state that the words spell
   pub way-at : (m : Mem) → Spelt ws t c m → (l : ℕ) → l < level → Inside (m .s .st) (m .count) (m .s .ns l) (m .s .ps l)
   way-at m sp l h =
@@ -127,11 +127,11 @@ module _ {ws : List ℕ} {t : ℕ} {c : Cursor} {level : ℕ} (y : Way ws t c le
   way-small l h = let i = way-here l h in omega (arith, i .place, i .room)
 
   -- one level up
-  pub way-up : (l : ℕ) → suc l ≡ level → Way ws t c l
+  pub way-up : (l : ℕ) → suc l ≡ level → Route ws t c l
   way-up l e = from (y .rows) (y .levels) (y .stacked) (y .named) (y .up) (y .path)
     where
       from : (rows : List Row) → length rows ≡ level → Stacked (y .row) rows → ((x : ℕ) → 1 ≤ count x (numbers rows) → (1 ≤ x) × (x ≤ y .mem .count)) → HoldsUp (y .mem .s .st) rows →
-          Path (y .row) (y .at) rows (y .mem .s .ns) (y .mem .s .ps) → Way ws t c l
+          Leads (y .row) (y .at) rows (y .mem .s .ns) (y .mem .s .ps) → Route ws t c l
       from [] q s nm u p = absurd (omega arith)
       from (S ∷ Ss) q s nm u p =
           let b : sum (sizes S) ≡ length (y .row) = HealStack.stacked-sum (y .row) S (s .0) in
@@ -155,7 +155,7 @@ module _ {ws : List ℕ} {t : ℕ} {c : Cursor} {level : ℕ} (y : Way ws t c le
   way-right l e x r = from (y .rows) (y .levels) (y .stacked) (y .named) (y .up) (y .path)
     where
       from : (rows : List Row) → length rows ≡ level → Stacked (y .row) rows → ((x : ℕ) → 1 ≤ count x (numbers rows) → (1 ≤ x) × (x ≤ y .mem .count)) → HoldsUp (y .mem .s .st) rows →
-          Path (y .row) (y .at) rows (y .mem .s .ns) (y .mem .s .ps) → (1 ≤ x .1) × (x .1 ≤ y .mem .count)
+          Leads (y .row) (y .at) rows (y .mem .s .ns) (y .mem .s .ps) → (1 ≤ x .1) × (x .1 ≤ y .mem .count)
       from [] q s nm u p = absurd (omega arith)
       from (S ∷ Ss) q s nm u p =
           let b : sum (sizes S) ≡ length (y .row) = HealStack.stacked-sum (y .row) S (s .0) in

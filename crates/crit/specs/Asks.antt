@@ -13,7 +13,7 @@ use Rattle.forest.specs.Trees.{numbers}
 use Rattle.forest.specs.declared.Cursor.{Cursor}
 use Rattle.pool.specs.Stores.{Sixteen, spell}
 use Rattle.crit.specs.States.{State, rightSibling, critKey, throughRight}
-use Rattle.crit.specs.Paths.{Stacked, HoldsUp, Path}
+use Rattle.crit.specs.Paths.{Stacked, HoldsUp, Leads}
 use Rattle.crit.specs.declared.Near.{Near}
 use Rattle.crit.specs.declared.Near.the-variants.{Right, Nothing}
 use Rattle.crit.specs.declared.Crit.{Crit}
@@ -45,7 +45,7 @@ pub record Spelt (ws : List ℕ) (t : ℕ) (c : Cursor) (m : Mem) : Type 0 where
   pub size : c .size ≡ cond (m .s .live) (m .depth) 0
 
 -- the path goes through stacked rows above a level, which the words hold
-pub record Way (ws : List ℕ) (t : ℕ) (c : Cursor) (level : ℕ) : Type 0 where
+pub record Route (ws : List ℕ) (t : ℕ) (c : Cursor) (level : ℕ) : Type 0 where
   pub deep : level < mostLevels
   pub mem : Mem
   pub spelt : Spelt ws t c mem
@@ -57,7 +57,7 @@ pub record Way (ws : List ℕ) (t : ℕ) (c : Cursor) (level : ℕ) : Type 0 whe
   pub stacked : Stacked row rows
   pub named : (x : ℕ) → 1 ≤ count x (numbers rows) → (1 ≤ x) × (x ≤ mem .count)
   pub up : HoldsUp (mem .s .st) rows
-  pub path : Path row at rows (mem .s .ns) (mem .s .ps)
+  pub path : Leads row at rows (mem .s .ns) (mem .s .ps)
 
 -- what a function does to the state
 pub record Leaves (f : State → State) (ws vs : List ℕ) (t : ℕ) (c d : Cursor) : Type 0 where
@@ -82,8 +82,8 @@ pub record Crits (ws : List ℕ) (t : ℕ) (c : Cursor) (level : ℕ) (r : Crit)
   pub run : (m : Mem) → Spelt ws t c m → critOf r ≡ critKey (m .s .st) (m .s .ns) (m .s .ps) level
 
 -- a way with a node to the right
-pub record Goes (ws : List ℕ) (t : ℕ) (c : Cursor) (level : ℕ) : Type 0 where
-  pub way : Way ws t c level
+pub record RightRoute (ws : List ℕ) (t : ℕ) (c : Cursor) (level : ℕ) : Type 0 where
+  pub way : Route ws t c level
   pub more : suc (way .at) < length (way .row)
 
 -- the cursor goes through the right neighbour, or off the end

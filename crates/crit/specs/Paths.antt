@@ -24,6 +24,6 @@ Stacked R [] = length R ≡ 1
 Stacked R (S ∷ Ss) = Alike (joined S) (line R) × Fill innerLeast innerCap (sizes S) × Stacked S Ss
 
 -- the path to the j-th node of R: ns are the nodes, ps the places
-abbrev pub Path : Row → ℕ → List Row → (ℕ → ℕ) → (ℕ → ℕ) → Type 0
-Path R j [] ns ps = ns 0 ≡ numAt R j
-Path R j (S ∷ Ss) ns ps = (ns (suc (length Ss)) ≡ numAt R j) × (ps (length Ss) ≡ offset (sizes S) j) × Path S (parent (sizes S) j) Ss ns ps
+abbrev pub Leads : Row → ℕ → List Row → (ℕ → ℕ) → (ℕ → ℕ) → Type 0
+Leads R j [] ns ps = ns 0 ≡ numAt R j
+Leads R j (S ∷ Ss) ns ps = (ns (suc (length Ss)) ≡ numAt R j) × (ps (length Ss) ≡ offset (sizes S) j) × Leads S (parent (sizes S) j) Ss ns ps

@@ -1,7 +1,7 @@
 // The keys above a node and its right sibling, as the crate's path.rs has them: what healing reads and changes along the path.
 ghost use Prim.Native.Nat.{_<_};
 ghost use Rattle.crit.specs.States.{stored, rightSet, leftSet, handKey, nextPath, nextNode};
-ghost use Rattle.crit.specs.Asks.{Way, Goes, Leaves, Finds, Crits, Passes};
+ghost use Rattle.crit.specs.Asks.{Route, RightRoute, Leaves, Finds, Crits, Passes};
 use forest::Cursor;
 
 // What may stand to the right of a node: the key before it, and its number.
@@ -18,7 +18,7 @@ enum Crit {
 
 // The right sibling of the node at a level, even under another parent, and the key between them.
 pub fn right_sibling(ws: &[u32], t: usize, c: Cursor, level: usize) -> Near
-    requires { ⌜ Way (now ws) t c level ⌝ }
+    requires { ⌜ Route (now ws) t c level ⌝ }
     ensures { λ r. ⌜ Finds (now (ws .entry)) t c level r ⌝ }
 {
     if level == 0 {
@@ -40,7 +40,7 @@ pub fn right_sibling(ws: &[u32], t: usize, c: Cursor, level: usize) -> Near
 
 // The key before the right sibling of the node at a level becomes `key`.
 pub fn update_right_crit_key(ws: &mut [u32], t: usize, c: Cursor, level: usize, key: u32)
-    requires { ⌜ Way (now ws) t c level ⌝ }
+    requires { ⌜ Route (now ws) t c level ⌝ }
     ensures { λ _. ⌜ Leaves (λ s. stored s (rightSet (s .st) (s .ns) (s .ps) level key)) (now (ws .entry)) (now (ws .exit)) t c c ⌝ }
 {
     if level == 0 {
@@ -60,7 +60,7 @@ pub fn update_right_crit_key(ws: &mut [u32], t: usize, c: Cursor, level: usize, 
 
 // The key before the node at a level.
 fn current_crit_key(ws: &[u32], t: usize, c: Cursor, level: usize) -> Crit
-    requires { ⌜ Way (now ws) t c level ⌝ }
+    requires { ⌜ Route (now ws) t c level ⌝ }
     ensures { λ r. ⌜ Crits (now (ws .entry)) t c level r ⌝ }
 {
     if level == 0 {
@@ -78,7 +78,7 @@ fn current_crit_key(ws: &[u32], t: usize, c: Cursor, level: usize) -> Crit
 
 // The key before the node at a level becomes `key`.
 pub fn update_crit_key(ws: &mut [u32], t: usize, c: Cursor, level: usize, key: u32)
-    requires { ⌜ Way (now ws) t c level ⌝ }
+    requires { ⌜ Route (now ws) t c level ⌝ }
     ensures { λ _. ⌜ Leaves (λ s. stored s (leftSet (s .st) (s .ns) (s .ps) level key)) (now (ws .entry)) (now (ws .exit)) t c c ⌝ }
 {
     if level == 0 {
@@ -98,7 +98,7 @@ pub fn update_crit_key(ws: &mut [u32], t: usize, c: Cursor, level: usize, key: u
 
 // The key before the right sibling of the node at a level becomes the one before the node, if it has one.
 pub fn hand_crit_key(ws: &mut [u32], t: usize, c: Cursor, level: usize)
-    requires { ⌜ Way (now ws) t c level ⌝ }
+    requires { ⌜ Route (now ws) t c level ⌝ }
     ensures { λ _. ⌜ Leaves (λ s. stored s (handKey (s .st) (s .ns) (s .ps) level)) (now (ws .entry)) (now (ws .exit)) t c c ⌝ }
 {
     if let Crit::Key(key) = current_crit_key(ws, t, c, level) {
@@ -108,7 +108,7 @@ pub fn hand_crit_key(ws: &mut [u32], t: usize, c: Cursor, level: usize)
 
 // The path to the right sibling of the node at a level.
 fn next_path(ws: &[u32], t: usize, c: Cursor, level: usize) -> Cursor
-    requires { ⌜ Goes (now ws) t c level ⌝ }
+    requires { ⌜ RightRoute (now ws) t c level ⌝ }
     ensures { λ r. ⌜ Leaves (nextPath level) (now (ws .entry)) (now (ws .entry)) t c r ⌝ }
 {
     if level == 0 {
@@ -134,7 +134,7 @@ fn next_path(ws: &[u32], t: usize, c: Cursor, level: usize) -> Cursor
 
 // Moves to the first entry of the next node at a level; off the end if there is none.
 pub fn next_node(ws: &[u32], t: usize, c: Cursor, level: usize) -> Cursor
-    requires { ⌜ Way (now ws) t c level ⌝ }
+    requires { ⌜ Route (now ws) t c level ⌝ }
     ensures { λ r. ⌜ Leaves (nextNode level) (now (ws .entry)) (now (ws .entry)) t c r ⌝ }
 {
     if let Near::Right(_, _) = right_sibling(ws, t, c, level) {

@@ -197,10 +197,10 @@ trees-length n (t ∷ ts) d e = tree-length n t (inTrees n ts d) (trees-length n
 pub node-length : (ts : List Tree) (n : ℕ) → length (nodeWords ts n) ≡ 16
 node-length ts n = trees-length n ts (pad 16 []) refl
 
-pub nodes-length : (ts : List Tree) (n c : ℕ) → length (nodesFrom ts n c) ≡ 16 * c
-nodes-length ts n zero = refl
-nodes-length ts n (suc c) = omega (arith, length-append (nodeWords ts n) (nodesFrom ts (suc n) c), node-length ts n, nodes-length ts (suc n) c)
+pub nodes-length : (words : ℕ → List ℕ) (n c : ℕ) → ((x : ℕ) → length (words x) ≡ 16) → length (nodesFrom words n c) ≡ 16 * c
+nodes-length words n zero s = refl
+nodes-length words n (suc c) s = omega (arith, length-append (words n) (nodesFrom words (suc n) c), s n, nodes-length words (suc n) c s)
 
 pub encode-length : (p : Pool) → length (encode p) ≡ length (p .trees) + 17 * p .count + 3
 unfolding encode
-encode-length p = simp (length-append, length-map, nodes-length, length-pad) (omega arith)
+encode-length p = simp (length-append, length-map, nodes-length (nodeWords (p .trees)) 1 (p .count) (node-length (p .trees)), length-pad) (omega arith)

@@ -1,23 +1,19 @@
 -- PROOFS. Going down: in each inner node the child is the count of its stored keys that are not above k, and that leads to the leaf of k; and a tree has at most six levels
 use mathlib.Core.Path.{_≡_, refl, ap}
-use mathlib.Core.List.{List, [], _∷_, _++_, append-nil, map}
+use mathlib.Core.List.{List, [], _∷_, _++_, append-nil}
 use Prim.Native.Nat.{ℕ, zero, suc, _+_, _-_, _≤_, _<_}
 use native.Mathlib.Omega.{arith}
 use lib.ListN.{length, take, drop, getD, length-append, length-map}
 use lib.Dec.{leb}
 use borrow.Author.Tests.{lt-ltb, le-ltb, le-leb, lt-leb}
 use Rattle.forest.specs.Lists.{parent, offset, upto}
-use Rattle.forest.specs.Pairs.{Item, Above, Rising}
+use Rattle.forest.specs.Pairs.{Item, keys, Above, Rising}
 use Rattle.forest.specs.Rows.{Node, Row, size, front, sizes, fronts, joined, line, itemsAt, Tower, Good}
 use Rattle.forest.specs.Trees.{leafOf}
 use Rattle.forest.proofs.ListLaws.{is, isnt, test, tests, map-append, upto-length}
 use Rattle.forest.proofs.PairLaws.{Below, above-right, rising-right, rising-seam}
 use Rattle.forest.proofs.TowerLaws.{tower-some}
 use Rattle.forest.proofs.TreeLaws.{NoneEmpty, none-empty}
-
--- the keys of items
-abbrev pub keys : List Item → List ℕ
-keys xs = map (λ (x : Item). x .0) xs
 
 -- the keys that the words of an inner node store
 abbrev pub stored : List Item → List ℕ
@@ -87,11 +83,11 @@ front-first [] h = absurd (omega arith)
 front-first (x ∷ xs) h = refl
 
 -- the index that the joined items name for k: which node, and where in it
-pub record Goes (k : ℕ) (S : Row) : Type 0 where
+pub record LeadsDown (k : ℕ) (S : Row) : Type 0 where
   pub node-of : parent (sizes S) (upto k (stored (joined S))) ≡ leafOf k S
   pub place-of : offset (sizes S) (upto k (stored (joined S))) ≡ upto k (stored (itemsAt S (leafOf k S)))
 
-goes : (k : ℕ) (n : Node) (S : Row) → NoneEmpty (n ∷ S) → Rising (joined (n ∷ S)) → Goes k (n ∷ S)
+goes : (k : ℕ) (n : Node) (S : Row) → NoneEmpty (n ∷ S) → Rising (joined (n ∷ S)) → LeadsDown k (n ∷ S)
 goes k n [] s r =
     let i = lt-ltb (upto k (stored (n .items))) (size n) (upto-inside k (n .items) (s .0)) in
     record { node-of = rw (append-nil, i); place-of = rw (append-nil, i) }
@@ -111,7 +107,7 @@ goes k n (m ∷ S) s r =
           record { node-of = rw (u, i, e); place-of = rw (u, i, e) }
     ]
 
-pub goes-row : (k : ℕ) (S : Row) → NoneEmpty S → Rising (joined S) → 1 ≤ length S → Goes k S
+pub goes-row : (k : ℕ) (S : Row) → NoneEmpty S → Rising (joined S) → 1 ≤ length S → LeadsDown k S
 goes-row k [] s r h = absurd (omega arith)
 goes-row k (n ∷ S) s r h = goes k n S s r
 

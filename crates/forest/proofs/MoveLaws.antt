@@ -107,7 +107,7 @@ abbrev pub rank : Pool → Cursor → ℕ
 rank p c = position (row p c) (spotIn p c)
 
 -- a move answers a, and its cursor comes to the spot s
-pub record Goes (r : Moved) (a : Answer) (s : Spot) : Type 0 where
+pub record MovesTo (r : Moved) (a : Answer) (s : Spot) : Type 0 where
   pub answers : r .answer ≡ a
   pub spot : spotIn (r .pool) (r .cursor) ≡ s
 
@@ -123,7 +123,7 @@ module _ (m : ℕ) (lo : 1 ≤ m) (hi : m ≤ 4) (p : Pool) (h : WellFormed m p)
 
   -- of any move
   pub goes : (v : Move) → blocked v c p ≡ 0 →
-      Goes (move v c p) (tells v (treeOf p (c .tree)) (spotIn p c))
+      MovesTo (move v c p) (tells v (treeOf p (c .tree)) (spotIn p c))
       (leftSpot v (row p c) (leaves (treeOf (leftPool v (c .tree) (spotIn p c) p) (c .tree))) (spotIn p c))
   unfolding moveFrom
   goes v e =
@@ -143,34 +143,34 @@ module _ (m : ℕ) (lo : 1 ≤ m) (hi : m ≤ 4) (p : Pool) (h : WellFormed m p)
   pair-of i = pair-at (row p c) i ∙ ap (λ (us : List Item). getElem? us i) (leaves-joined (treeOf p (c .tree)))
 
   -- first: the least pair
-  pub first-goes : blocked to-first c p ≡ 0 → Goes (move to-first c p) (told (getElem? (list p c) 0)) (spotAt (row p c) 0)
+  pub first-goes : blocked to-first c p ≡ 0 → MovesTo (move to-first c p) (told (getElem? (list p c) 0)) (spotAt (row p c) 0)
   first-goes e =
       let g = goes to-first e in
       let z = first-at (row p c) some-leaves in
       record { answers = g .answers ∙ ap told (ap (pairAt (row p c)) z ∙ pair-of 0); spot = g .spot ∙ z }
 
   -- seek: the value held, and the place of the key
-  pub seek-goes : (k : ℕ) → blocked (to-key k) c p ≡ 0 → Goes (move (to-key k) c p) (held (lookup k (list p c))) (seek k (row p c))
+  pub seek-goes : (k : ℕ) → blocked (to-key k) c p ≡ 0 → MovesTo (move (to-key k) c p) (held (lookup k (list p c))) (seek k (row p c))
   seek-goes k e =
       let g = goes (to-key k) e in
       record { answers = g .answers ∙ ap held (pairs-get m 7 k lo (treeOf p (c .tree)) good); spot = g .spot }
 
   -- settle: the pair whose place the cursor has
-  pub settle-goes : blocked to-settled c p ≡ 0 → Goes (move to-settled c p) nothing (spotAt (row p c) (rank p c))
+  pub settle-goes : blocked to-settled c p ≡ 0 → MovesTo (move to-settled c p) nothing (spotAt (row p c) (rank p c))
   settle-goes e =
       let g = goes to-settled e in
       record { answers = g .answers; spot = g .spot ∙ settle-any (row p c) (spotIn p c) some-leaves (fits-in to-settled e refl) }
 
   -- next: from a pair the one after it; from no pair the one whose place the cursor has
   pub next-goes : (y : Item) → blocked to-next c p ≡ 0 → pairAt (row p c) (spotIn p c) ≡ some y →
-      Goes (move to-next c p) (told (getElem? (list p c) (suc (rank p c)))) (spotAt (row p c) (suc (rank p c)))
+      MovesTo (move to-next c p) (told (getElem? (list p c) (suc (rank p c)))) (spotAt (row p c) (suc (rank p c)))
   next-goes y e q =
       let g = goes to-next e in
       let z = next-from-pair (row p c) (spotIn p c) y some-leaves (fits-in to-next e refl) q in
       record { answers = g .answers ∙ ap told (ap (pairAt (row p c)) z ∙ pair-of (suc (rank p c))); spot = g .spot ∙ z }
 
   pub next-past-goes : blocked to-next c p ≡ 0 → pairAt (row p c) (spotIn p c) ≡ none →
-      Goes (move to-next c p) (told (getElem? (list p c) (rank p c))) (spotAt (row p c) (rank p c))
+      MovesTo (move to-next c p) (told (getElem? (list p c) (rank p c))) (spotAt (row p c) (rank p c))
   next-past-goes e q =
       let g = goes to-next e in
       let z = next-from-none (row p c) (spotIn p c) some-leaves (fits-in to-next e refl) q in
@@ -178,7 +178,7 @@ module _ (m : ℕ) (lo : 1 ≤ m) (hi : m ≤ 4) (p : Pool) (h : WellFormed m p)
 
   -- prev: the pair before the place; at the first none, unmoved
   pub prev-goes : blocked to-prev c p ≡ 0 → 1 ≤ rank p c →
-      Goes (move to-prev c p) (told (getElem? (list p c) (rank p c - 1))) (spotAt (row p c) (rank p c - 1))
+      MovesTo (move to-prev c p) (told (getElem? (list p c) (rank p c - 1))) (spotAt (row p c) (rank p c - 1))
   prev-goes e k =
       let g = goes to-prev e in
       let z = prev-any (row p c) (spotIn p c) some-leaves (fits-in to-prev e refl) k in
@@ -187,7 +187,7 @@ module _ (m : ℕ) (lo : 1 ≤ m) (hi : m ≤ 4) (p : Pool) (h : WellFormed m p)
         spot = g .spot ∙ z;
       }
 
-  pub prev-first-goes : blocked to-prev c p ≡ 0 → rank p c ≡ 0 → Goes (move to-prev c p) nothing (spotIn p c)
+  pub prev-first-goes : blocked to-prev c p ≡ 0 → rank p c ≡ 0 → MovesTo (move to-prev c p) nothing (spotIn p c)
   prev-first-goes e k =
       let g = goes to-prev e in
       let z = prev-at-first (row p c) (spotIn p c) some-leaves (fits-in to-prev e refl) k in
@@ -290,7 +290,7 @@ module _ (m : ℕ) (lo : 1 ≤ m) (hi : m ≤ 4) (p : Pool) (h : WellFormed m p)
   ]
 
   next-tells : (i : ℕ) (c : Cursor) → blocked to-next c p ≡ 0 → spotIn p c ≡ spotAt (row p c) i →
-      Goes (move to-next c p) (told (getElem? (list p c) (suc i))) (spotAt (row p c) (suc i))
+      MovesTo (move to-next c p) (told (getElem? (list p c) (suc i))) (spotAt (row p c) (suc i))
   next-tells i c e q =
       let g = goes m lo hi p h c to-next e in
       let z = ap (next (row p c)) q ∙ next-place (row p c) i (some-leaves m lo hi p h c) in

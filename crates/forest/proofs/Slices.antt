@@ -1,18 +1,33 @@
--- PROOFS. What the loops of slice_insert and slice_shift make, turn by turn; what a search passes
+-- PROOFS. The words of a node in those of a pool; what the loops of slice_insert and slice_shift make, turn by turn; what a search passes
 use mathlib.Core.Path.{_≡_, refl, sym, ap, _∙_}
 use mathlib.Core.List.{List, [], _∷_, _++_, append-nil}
 use mathlib.Core.Bool.{Bool, true, false}
 use Prim.Native.Nat.{ℕ, zero, suc, _+_, _-_, _≤_, _<_}
 use native.Mathlib.Numerals.{add-one}
 use native.Mathlib.Omega.{arith}
-use lib.ListN.{length, take, drop, set, getD, length-drop, List·getD-append}
-use lib.Seq.{take-suc, drop-cons, drop-length, set-at, length-take-le, getD-take, getD-drop, append-snoc, take-all, getD-append-add}
+use lib.ListN.{length, take, drop, set, getD, length-drop, take-append-drop, List·getD-append}
+use lib.Seq.{drop-drop, take-suc, drop-cons, drop-length, set-at, length-take-le, getD-take, getD-drop, append-snoc, take-all, getD-append-add}
 use lib.Dec.{ltb, eqb}
 use borrow.Author.Tests.{lt-ltb, le-ltb, eq-eqb, ne-eqb}
 use Rattle.forest.specs.Lists.{insertAt}
-use Rattle.forest.specs.Slices.{inserted, shifted, KeysAbove, KeysRise, keyPlace, hasKey, searched}
+use Rattle.forest.specs.Slices.{blockAt, inserted, shifted, KeysAbove, KeysRise, keyPlace, hasKey, searched}
 use Rattle.forest.specs.declared.Found.the-variants.{Here, Absent}
 use Rattle.forest.proofs.ListLaws.{is, isnt, test, tests}
+
+-- a word of a node that starts at place b
+pub at-block : (ws : List ℕ) (b i : ℕ) → i < 16 → getD (blockAt ws b) i 0 ≡ getD ws (b + i) 0
+unfolding blockAt
+at-block ws b i h = getD-take 16 (drop b ws) i 0 h ∙ getD-drop b ws i 0
+
+-- its first
+pub first-block : (ws : List ℕ) (b : ℕ) → getD (blockAt ws b) 0 0 ≡ getD ws b 0
+first-block ws b = let z : b + 0 ≡ b = omega arith in at-block ws b 0 (omega arith) ∙ ap (λ (x : ℕ). getD ws x 0) z
+
+-- the words around it
+pub around-block : (ws : List ℕ) (b : ℕ) → ws ≡ take b ws ++ (blockAt ws b ++ drop (b + 16) ws)
+unfolding blockAt
+around-block ws b =
+    sym (ap (take b ws ++_) (ap (take 16 (drop b ws) ++_) (sym (drop-drop 16 b ws)) ∙ take-append-drop 16 (drop b ws)) ∙ take-append-drop b ws)
 
 -- l with the places above j filled by what stood one before
 abbrev pub moved : List ℕ → ℕ → List ℕ

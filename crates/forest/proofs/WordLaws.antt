@@ -153,11 +153,11 @@ pub other-words : (ts : List Tree) (t : ℕ) (x : Tree) (n : ℕ) → count n (n
 other-words ts t x n a b = trees-set n ts t x (pad 16 []) a b
 
 -- the places of the parts
-nodes-window : (ts : List Tree) (n c i : ℕ) (rest : List ℕ) → i < c → take 16 (drop (16 * i) (nodesFrom ts n c ++ rest)) ≡ nodeWords ts (n + i)
+nodes-window : (ts : List Tree) (n c i : ℕ) (rest : List ℕ) → i < c → take 16 (drop (16 * i) (nodesFrom (nodeWords ts) n c ++ rest)) ≡ nodeWords ts (n + i)
 nodes-window ts n zero i rest h = absurd (omega arith)
 nodes-window ts n (suc c) zero rest h =
     let z : n + 0 ≡ n = omega arith in
-    rw (z, append-assoc) (take-at (nodeWords ts n) (nodesFrom ts (suc n) c ++ rest) 16 (node-length ts n))
+    rw (z, append-assoc) (take-at (nodeWords ts n) (nodesFrom (nodeWords ts) (suc n) c ++ rest) 16 (node-length ts n))
 nodes-window ts n (suc c) (suc i) rest h =
     let z : 16 * suc i ≡ length (nodeWords ts n) + 16 * i = omega (arith, node-length ts n) in
     let y : n + suc i ≡ suc n + i = omega arith in
@@ -165,7 +165,7 @@ nodes-window ts n (suc c) (suc i) rest h =
 
 module _ (p : Pool) where
   -- the words behind T and the roots
-  behind : (i : ℕ) → drop (suc (length (p .trees)) + i) (encode p) ≡ drop i (p .count ∷ (nodesFrom (p .trees) 1 (p .count) ++ (length (p .free) ∷ pad (p .count) (reverse (p .free)))))
+  behind : (i : ℕ) → drop (suc (length (p .trees)) + i) (encode p) ≡ drop i (p .count ∷ (nodesFrom (nodeWords (p .trees)) 1 (p .count) ++ (length (p .free) ∷ pad (p .count) (reverse (p .free)))))
   unfolding encode
   behind i =
       let z : suc (length (p .trees)) + i ≡ suc (length (map root (p .trees)) + i) = omega (arith, length-map (p .trees) root) in
@@ -189,7 +189,7 @@ module _ (p : Pool) where
   pub free-part : drop (length (p .trees) + 2 + 16 * p .count) (encode p) ≡ length (p .free) ∷ pad (p .count) (reverse (p .free))
   free-part =
       let z : length (p .trees) + 2 + 16 * p .count ≡ suc (length (p .trees)) + suc (16 * p .count) = omega arith in
-      rw (z, behind (suc (16 * p .count))) (drop-at (nodesFrom (p .trees) 1 (p .count)) _ (16 * p .count) (nodes-length (p .trees) 1 (p .count)))
+      rw (z, behind (suc (16 * p .count))) (drop-at (nodesFrom (nodeWords (p .trees)) 1 (p .count)) _ (16 * p .count) (nodes-length (nodeWords (p .trees)) 1 (p .count) (node-length (p .trees))))
 
   pub count-word : getD (encode p) (suc (length (p .trees))) 0 ≡ p .count
   unfolding encode

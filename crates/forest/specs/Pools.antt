@@ -73,10 +73,10 @@ inTrees n (t ∷ ts) or = inTree n t (inTrees n ts or)
 abbrev pub nodeWords : List Tree → ℕ → List ℕ
 nodeWords ts n = inTrees n ts (pad nodeSize [])
 
--- the words of c nodes from number n on
-abbrev pub nodesFrom : List Tree → ℕ → ℕ → List ℕ
-nodesFrom ts n zero = []
-nodesFrom ts n (suc c) = nodeWords ts n ++ nodesFrom ts (suc n) c
+-- the words of c nodes from number n on; those of each are `words` of its number
+abbrev pub nodesFrom : (ℕ → List ℕ) → ℕ → ℕ → List ℕ
+nodesFrom words n zero = []
+nodesFrom words n (suc c) = words n ++ nodesFrom words (suc n) c
 
 -- the number of the node at the top, 0 of the empty tree
 abbrev pub rootAbove : Row → List Row → ℕ
@@ -92,7 +92,7 @@ root (L ∷ Rs) = rootAbove L Rs
 unfoldable pub encode : Pool → List ℕ
 encode p =
     length (p .trees) ∷ (map root (p .trees) ++
-    (p .count ∷ (nodesFrom (p .trees) 1 (p .count) ++
+    (p .count ∷ (nodesFrom (nodeWords (p .trees)) 1 (p .count) ++
     (length (p .free) ∷ pad (p .count) (reverse (p .free))))))
 
 -- the words are those of a well formed pool; there is one such pool at most (UniqueLaws)

@@ -4,8 +4,8 @@ use mathlib.Core.List.{List, [], _∷_, _++_, append-assoc, map}
 use mathlib.Core.Bool.{true, false, true≢false}
 use Prim.Native.Nat.{ℕ, zero, suc, _+_, _-_, _≤_, _<_}
 use native.Mathlib.Omega.{arith}
-use lib.ListN.{length, take, drop, getD, set, length-append, length-map, length-set, length-drop, take-append-drop, List·getD-append}
-use lib.Seq.{length-take-le, take-append-le, drop-append-le, take-append-add, drop-append-add, getD-append-add, take-at, drop-at, take-take, drop-drop}
+use lib.ListN.{length, take, drop, getD, set, length-append, length-map, length-set, length-drop, List·getD-append}
+use lib.Seq.{length-take-le, take-append-le, drop-append-le, take-append-add, drop-append-add, getD-append-add, take-at, drop-at, take-take}
 use borrow.Author.Tests.{lt-ltb, le-ltb}
 use borrow.Rule.Slice.PartMut.{putMid}
 use Rattle.forest.specs.Lists.{insertAt, pad}
@@ -13,6 +13,7 @@ use Rattle.forest.specs.Pairs.{Item}
 use Rattle.forest.specs.Slices.{inserted}
 use Rattle.forest.specs.Pools.{leafWords}
 use Rattle.forest.proofs.ListLaws.{length-insertAt, map-insertAt, set-left, set-right}
+use Rattle.forest.proofs.Slices.{around-block}
 use Rattle.forest.proofs.CountLaws.{length-pad}
 use Rattle.pool.specs.Stores.{base, patched, block, withBlock}
 use Rattle.pool.proofs.Patches.{patched-length}
@@ -112,10 +113,7 @@ module _ (ws : List ℕ) (t n p : ℕ) (g : LeafPlace ws t n p) where
   fore-length = length-take-le (base t n) ws (omega (arith, g .placed .room))
 
   around : ws ≡ fore ++ (leafWords items ++ rear)
-  unfolding block
-  around =
-      sym (take-append-drop (base t n) ws) ∙
-      ap (fore ++_) (sym (take-append-drop 16 (drop (base t n) ws)) ∙ ap (_++ drop 16 (drop (base t n) ws)) (sym (g .leaf .same)) ∙ ap (leafWords items ++_) (drop-drop 16 (base t n) ws))
+  around = around-block ws (base t n) ∙ ap (λ (w : List ℕ). fore ++ (w ++ rear)) (sym (g .leaf .same))
 
   -- other words for the leaf
   stored : (w : List ℕ) → length w ≡ 16 → fore ++ (w ++ rear) ≡ withBlock ws t n w

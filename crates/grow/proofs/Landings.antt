@@ -173,7 +173,7 @@ module _ (ws : List ℕ) (t tree : ℕ) (ns ps : List ℕ) (level : ℕ) (w : Li
     key-is : r .key ≡ front (Grows.rightPart 7 p x (leafOf s))
     key-is = ap (λ (o : SplitOff). o .key) q ∙ rw (pairs-are s p (g .land), g .land .place)
 
-    pub cuts-asks : Grows.Cuts ws t (getD ns level 0)
+    pub cuts-asks : Grows.AskCut ws t (getD ns level 0)
     cuts-asks = record {
       takes = Cutting.takes ws t tree ns ps level s u some-free;
       node = leaf-placed ws t tree ns ps level s p (g .land);

@@ -16,7 +16,7 @@ use Rattle.forest.specs.declared.Reply.the-variants.{Nothing, Value, Refused}
 use Rattle.forest.specs.declared.Refusal.the-variants.{NoRoom}
 use Rattle.forest.proofs.Reply as ReplyType
 use Rattle.forest.proofs.CountLaws.{nodes-all, node-length}
-use Rattle.pool.specs.Stores.{spell, stackAt, frees, Sixteen}
+use Rattle.pool.specs.Stores.{spell, stackAt, freeCount, Sixteen}
 use Rattle.pool.proofs.Spell.{encode-spell}
 use Rattle.pool.proofs.Bridges.{spell-length, spell-stackAt, spell-frees}
 use Rattle.path.specs.Cores.{Ready, Of}
@@ -61,7 +61,7 @@ module _ (ws : List ℕ) (t tree : ℕ) (y : Ready ws t tree) where
           spell-length (map Pools.root (p .trees)) (p .count) (Pools.nodeWords (p .trees)) (p .free) sixteen,
         ))
 
-    pub free-is : (f : ℕ) → f ≡ frees ws t → f ≡ length (p .free)
+    pub free-is : (f : ℕ) → f ≡ freeCount ws t → f ≡ length (p .free)
     free-is f q = q ∙ rw (← spelled, ← roots-are) (spell-frees (map Pools.root (p .trees)) (p .count) (Pools.nodeWords (p .trees)) (p .free) sixteen)
 
     pub root-word : getD ws (tree + 1) 0 ≡ Pools.root (Pools.treeOf p tree)
@@ -96,7 +96,7 @@ module _ (ws : List ℕ) (t tree : ℕ) (y : Ready ws t tree) where
         (Spelling.planted-spell (map Pools.root (p .trees)) (p .count) (Pools.nodeWords (p .trees)) sixteen (p .free) h few (r .0) (r .1) tree w (omega (arith, roots-are, y .there)) l)
 
 -- An empty tree
-module _ (ws : List ℕ) (t tree k v : ℕ) (g : Empty ws t tree) (f : ℕ) (q : f ≡ frees ws t) where
+module _ (ws : List ℕ) (t tree k v : ℕ) (g : Empty ws t tree) (f : ℕ) (q : f ≡ freeCount ws t) where
   abbrev mine : Of ws (g .ready .sound .pool)
   mine = the-pool ws t tree (g .ready)
 

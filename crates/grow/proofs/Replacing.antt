@@ -14,7 +14,7 @@ use Rattle.forest.specs.declared.Reply.the-variants.{Nothing, Value, Refused}
 use Rattle.forest.specs.declared.Refusal.the-variants.{NoRoom}
 use Rattle.forest.proofs.ListLaws.{is, isnt, test, map-set, set-right}
 use Rattle.forest.proofs.CountLaws.{length-pad, set-pad}
-use Rattle.pool.specs.Stores.{base, block, withBlock, stackAt, frees}
+use Rattle.pool.specs.Stores.{base, block, withBlock, stackAt, freeCount}
 use Rattle.pool.proofs.Bridges.{spell-length, spell-stackAt, spell-frees}
 use Rattle.node.specs.Nodes.{leafPairs}
 use Rattle.grow.specs.Grows
@@ -98,10 +98,10 @@ module _ (ws : List ℕ) (t tree : ℕ) (ns ps : List ℕ) (level : ℕ) where
         rw (← (u .words), ← (u .trees))
         (omega (arith, spell-stackAt (s .roots) (s .nodes) (s .store) (s .free) (u .sixteen), spell-length (s .roots) (s .nodes) (s .store) (s .free) (u .sixteen)))
 
-    pub free-is : (f : ℕ) → f ≡ frees ws t → f ≡ length (s .free)
+    pub free-is : (f : ℕ) → f ≡ freeCount ws t → f ≡ length (s .free)
     free-is f q = q ∙ rw (← (u .words), ← (u .trees)) (spell-frees (s .roots) (s .nodes) (s .store) (s .free) (u .sixteen))
 
-  module _ (x : Item) (f n : ℕ) (q : f ≡ frees ws t) (a : (s : Grows.Scene) (p : ℕ) → Grows.Land s p ws t tree ns ps level → n ≡ Grows.leafNeed s) where
+  module _ (x : Item) (f n : ℕ) (q : f ≡ freeCount ws t) (a : (s : Grows.Scene) (p : ℕ) → Grows.Land s p ws t tree ns ps level → n ≡ Grows.leafNeed s) where
     pub refuse : f < n → (s : Grows.Scene) (p : ℕ) → Grows.Land s p ws t tree ns ps level → Adds s p tree x ws ws (Refused NoRoom)
     refuse h s p d =
         let y = free-is s (d .under) f q in

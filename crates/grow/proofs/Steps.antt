@@ -187,7 +187,7 @@ module _ (ws : List ℕ) (t tree : ℕ) (ns ps : List ℕ) (level : ℕ) (b : 1 
         ap (λ (o : SplitOff). o .key) q ∙
         rw (is-inner s (g .under), here .place) (ap front (right-half (key, node) (itemsUp s) (offUp s) (omega (arith, here .inside)) (here .few)))
 
-    pub cuts-asks : Grows.Cuts ws t (getD ns (level - 1) 0)
+    pub cuts-asks : Grows.AskCut ws t (getD ns (level - 1) 0)
     cuts-asks = record {
       takes = takes ws t tree ns ps level s (g .under) (some-free ws t tree ns ps s level b (key, node) g is-full);
       node = up-placed ws t tree ns ps s level (g .under) here;

@@ -171,6 +171,6 @@ pub record Takes (ws : List ℕ) (t : ℕ) : Type 0 where
   pub new : Placed ws t (topNode ws t)
 
 -- and so has node n
-pub record Cuts (ws : List ℕ) (t n : ℕ) : Type 0 where
+pub record AskCut (ws : List ℕ) (t n : ℕ) : Type 0 where
   pub takes : Takes ws t
   pub node : Placed ws t n

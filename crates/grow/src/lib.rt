@@ -6,7 +6,7 @@ ghost use Rattle.forest.specs.Trees.{needUp};
 ghost use Rattle.pool.specs.Stores.{topNode};
 ghost use Rattle.path.specs.Cores.{Ready};
 ghost use Rattle.grow.specs.Puts.{LeafPlace, Tries, Replaces, Adds, Puts, Empty};
-ghost use Rattle.grow.specs.Grows.{plantedWords, cutWords, Takes, Cuts};
+ghost use Rattle.grow.specs.Grows.{plantedWords, cutWords, Takes, AskCut};
 ghost use Rattle.grow.specs.Grows.{Scene, Under, Unders, Climb, Climbs, climbed, Land, Lands, leafNeed, Landed, Fits, landedWords};
 use forest::Cursor;
 use forest::Refusal;
@@ -25,7 +25,7 @@ fn plant(ws: &mut [u32], t: usize, tree: u32, node: [u32; 16])
 
 // Cuts node n: `left` stays, `right` goes to a node that is taken and handed back.
 fn cut(ws: &mut [u32], t: usize, n: u32, left: [u32; 16], right: [u32; 16]) -> u32
-    requires { ⌜ Cuts (now ws) t n ⌝ }
+    requires { ⌜ AskCut (now ws) t n ⌝ }
     ensures node { λ r. ⌜ r ≡ topNode (now (ws .entry)) t ⌝ }
     ensures words { λ _. ⌜ now (ws .exit) ≡ cutWords (now (ws .entry)) t n left right ⌝ }
 {

@@ -20,7 +20,7 @@ use Rattle.node.specs.declared.Removed.{Removed}
 use Rattle.node.specs.declared.Removed.the-variants.{Healthy, Rightmost, Underflow, Empty}
 use Rattle.crit.specs.States.{State, rightSibling, nextNode, throughRight, stored}
 use Rattle.crit.specs.Paths.{numAt}
-use Rattle.crit.specs.Asks.{Mem, moved, Spelt, Way, Leaves, Finds, nearOf, Passes}
+use Rattle.crit.specs.Asks.{Mem, moved, Spelt, Route, Leaves, Finds, nearOf, Passes}
 use Rattle.crit.specs.declared.Near.{Near}
 use Rattle.crit.specs.declared.Near.the-variants.{Right, Nothing}
 use Rattle.heal.specs.Steps.{innerOps, healLevel, underWith, emptyNode, emptyFrom, parentCut, freeNode}
@@ -91,7 +91,7 @@ module _ (k : Kind) where
 
   module _ (law : Lawful (k .ops) (k .words) (k .cap) (k .low)) {ws : List ℕ} {t : ℕ} {c : Cursor} {status : Removed} {level : ℕ} (a : AskHeal k ws t c status level) where
     -- the way above a wounded node, also once nodes of its row have other words
-    pub heal-way-put : {vs : List ℕ} (st′ : Store) → HealMem.Keeps (a .mem .s .st) st′ (nums (a .ready .row)) → Spelt vs t c (moved (a .mem) (stored (a .mem .s) st′)) → Way vs t c level
+    pub heal-way-put : {vs : List ℕ} (st′ : Store) → HealMem.Keeps (a .mem .s .st) st′ (nums (a .ready .row)) → Spelt vs t c (moved (a .mem) (stored (a .mem .s) st′)) → Route vs t c level
     heal-way-put {vs} st′ keeps sp = elim (a .ready .left) [
       | alive more st row ↦ record {
         deep = a .deep;
@@ -133,7 +133,7 @@ module _ (k : Kind) where
             HealMem.up-apart (a .mem .s .st) st′ (nums (a .ready .row)) (a .ready .rows) keeps
             (HealMem.once-append (nums (a .ready .row)) (numbers (a .ready .rows)) (once-row law (a .mem .count) level (a .mem .s) (a .ready))) (a .ready .up)
 
-    pub heal-way : Way ws t c level
+    pub heal-way : Route ws t c level
     heal-way = heal-way-put (a .mem .s .st) (λ x h. refl) (a .spelt)
 
     -- heal_level's calls
@@ -223,7 +223,7 @@ module _ {ws : List ℕ} {t : ℕ} {c : Cursor} {level : ℕ} (a : AskEmpty ws t
   }
 
   -- the way stays
-  pub free-way : (vs : List ℕ) → vs ≡ freedWords ws t (getD (c .nodes) level 0) → Way vs t c level
+  pub free-way : (vs : List ℕ) → vs ≡ freedWords ws t (getD (c .nodes) level 0) → Route vs t c level
   free-way vs e = record {
     deep = a .deep;
     mem = moved (a .mem) (freeNode (a .mem .s) (getD (c .nodes) level 0));

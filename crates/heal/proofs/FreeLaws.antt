@@ -7,7 +7,7 @@ use lib.ListN.{length}
 use Rattle.forest.specs.Lists.{count}
 use Rattle.forest.specs.declared.Cursor.{Cursor}
 use Rattle.forest.proofs.CountLaws.{in-range, few-numbers}
-use Rattle.pool.specs.Stores.{spell, freedWords, noWords, frees, Freeable}
+use Rattle.pool.specs.Stores.{spell, freedWords, noWords, freeCount, Freeable}
 use Rattle.pool.proofs.Bridges.{spell-frees}
 use Rattle.pool.proofs.Stacks.{spell-freeable, spell-freed}
 use Rattle.crit.specs.Asks.{Mem, moved, Spelt}
@@ -29,8 +29,8 @@ module _ {ws : List ℕ} {t : ℕ} {c : Cursor} {m : Mem} (sp : Spelt ws t c m) 
 
 pub same-free : {ws : List ℕ} {t : ℕ} {c d : Cursor} {m m′ : Mem} → Spelt ws t c m → Spelt ws t d m′ → length (m .s .free) ≡ length (m′ .s .free)
 same-free {ws} {t} {m} {m′} a b =
-    sym (spell-frees (m .roots) (m .count) (m .s .st) (m .s .free) (a .sixteen)) ∙ ap (λ (v : List ℕ). frees v (length (m .roots))) (sym (a .words) ∙ b .words) ∙
-    ap (frees (spell (m′ .roots) (m′ .count) (m′ .s .st) (m′ .s .free))) (sym (a .trees) ∙ b .trees) ∙ spell-frees (m′ .roots) (m′ .count) (m′ .s .st) (m′ .s .free) (b .sixteen)
+    sym (spell-frees (m .roots) (m .count) (m .s .st) (m .s .free) (a .sixteen)) ∙ ap (λ (v : List ℕ). freeCount v (length (m .roots))) (sym (a .words) ∙ b .words) ∙
+    ap (freeCount (spell (m′ .roots) (m′ .count) (m′ .s .st) (m′ .s .free))) (sym (a .trees) ∙ b .trees) ∙ spell-frees (m′ .roots) (m′ .count) (m′ .s .st) (m′ .s .free) (b .sixteen)
 
 -- while a number is in use, the stack has room for one more
 pub room : (N n : ℕ) (xs free : List ℕ) → Within N (n ∷ xs) free → length free < N

@@ -18,7 +18,7 @@ use Rattle.crit.specs.States.{State, leftSet, stored}
 use Rattle.crit.specs.Asks.{Mem, moved, Spelt, Leaves}
 use Rattle.heal.specs.Steps.{leafOps, innerOps, leafFront, fronted, parentCut, taken}
 use Rattle.heal.specs.Wounds.{Wounded}
-use Rattle.heal.specs.Cycle.{Kind, leafKind, left, standing, healed, AskFront, AskHeal, Cuts, Mends, Stood}
+use Rattle.heal.specs.Cycle.{Kind, leafKind, left, standing, healed, AskFront, AskHeal, Cuts, Mends, AskPair}
 use Rattle.crit.proofs.SpeltLaws.{spelt-placed, spelt-level, same-count}
 use Rattle.heal.proofs.HealTree.{front-wounded, front-words, front-path}
 use Rattle.heal.proofs.HealReady.{within-once}
@@ -68,7 +68,7 @@ standing-same k {ws} {t} {c} {m} {m′} level sp sp′ d lo hi =
     ap (λ (p : ℕ). statusOf (k .cap) p (left k (m .s) level)) (sym (sp .places level d) ∙ sp′ .places level d) ∙ ap (λ (w : List ℕ). statusOf (k .cap) (m′ .s .ps level) (k .ops .entries w)) a
 
 -- remove_pair
-module _ {ws vs us : List ℕ} {t : ℕ} {c : Cursor} {level : ℕ} {status : Removed} (a : Stood ws t c level) (k : Cuts leafKind ws vs t c level status) (f : Leaves (λ s. fronted leafOps 7 innerOps leafFront s level) vs us t c c) where
+module _ {ws vs us : List ℕ} {t : ℕ} {c : Cursor} {level : ℕ} {status : Removed} (a : AskPair ws t c level) (k : Cuts leafKind ws vs t c level status) (f : Leaves (λ s. fronted leafOps 7 innerOps leafFront s level) vs us t c c) where
   abbrev s : State
   s = a .mem .s
 

@@ -23,7 +23,7 @@ cut-length i S = HealRows.upd-length (parent (sizes S) i) (removeAt (offset (siz
 pub cut-name : (i : ℕ) (S : Row) → HealRows.numAt (cutRow i S) (parent (sizes S) i) ≡ HealRows.numAt S (parent (sizes S) i)
 cut-name i S = HealRows.upd-numAt (parent (sizes S) i) (parent (sizes S) i) (removeAt (offset (sizes S) i)) S
 
-pub cut-path : (i : ℕ) (S : Row) (Ss : List Row) (ns ps : ℕ → ℕ) → HealPath.Path S (parent (sizes S) i) Ss ns ps → HealPath.Path (cutRow i S) (parent (sizes S) i) Ss ns ps
+pub cut-path : (i : ℕ) (S : Row) (Ss : List Row) (ns ps : ℕ → ℕ) → HealPath.Leads S (parent (sizes S) i) Ss ns ps → HealPath.Leads (cutRow i S) (parent (sizes S) i) Ss ns ps
 cut-path i S Ss ns ps p = HealNext.path-shape S (cutRow i S) (parent (sizes S) i) ns ps (sym (cut-name i S)) (HealStack.same-refl Ss) p
 
 -- the last of groups has one, and all have two: so there are two groups

@@ -32,7 +32,7 @@ module _ {enc : List Item → List ℕ} {cap low : ℕ} {o : Ops} (law : Lawful 
     (ih : Heals up (length Ss))
     (s : State) (b : i < sum (sizes S)) (fill : Fill low cap (sizes S))
     (once : HealMem.Once (nums S ++ numbers Ss)) (hu : HealMem.HoldsUp (s .st) Ss)
-    (place : s .ps (length Ss) ≡ offset (sizes S) i) (path : HealPath.Path S (parent (sizes S) i) Ss (s .ns) (s .ps)) where
+    (place : s .ps (length Ss) ≡ offset (sizes S) i) (path : HealPath.Leads S (parent (sizes S) i) Ss (s .ns) (s .ps)) where
   abbrev pub C : Row
   C = HealStep.cutRow i S
 
@@ -51,14 +51,14 @@ module _ {enc : List Item → List ℕ} {cap low : ℕ} {o : Ops} (law : Lawful 
   apart : HealMem.Apart (nums S) (numbers Ss)
   apart = HealMem.once-append (nums S) (numbers Ss) once
 
-  pathC : HealPath.Path C (parent (sizes S) i) Ss (s .ns) (s .ps)
+  pathC : HealPath.Leads C (parent (sizes S) i) Ss (s .ns) (s .ps)
   pathC = cut-path i S Ss (s .ns) (s .ps) path
 
   -- an item is left
   module _ (some-left : 1 ≤ left-over) (stacked : HealStack.Stacked C Ss) (row : HealMem.Holds enc (s .st) C) where
     -- the words stay as they are; the cursor stands, or is off the end
     still : (t : State) → t .st ≡ s .st → t .free ≡ s .free → ((l : ℕ) → length Ss < l → t .ns l ≡ s .ns l) → ((l : ℕ) → length Ss < l → t .ps l ≡ s .ps l) →
-        Where (sum (sizes C)) i ((t .ps (length Ss) ≡ offset (sizes C) i) × HealPath.Path C (parent (sizes C) i) Ss (t .ns) (t .ps)) (s .live) (t .live) → Mended enc C false i S Ss s t
+        Where (sum (sizes C)) i ((t .ps (length Ss) ≡ offset (sizes C) i) × HealPath.Leads C (parent (sizes C) i) Ss (t .ns) (t .ps)) (s .live) (t .live) → Mended enc C false i S Ss s t
     still t a f n p w = record {
       rows = Ss;
       shape = HealStack.same-refl Ss;
@@ -179,7 +179,7 @@ module _ {enc : List Item → List ℕ} {cap low : ℕ} {o : Ops} (law : Lawful 
           let f1 : front (take (HealMend.keep u) u) ≡ front xs = front-take (HealMend.keep u) u (omega arith) ∙ front-append xs ys (omega (arith, xs-length)) in
           let line1 : line C1 ≡ line C = HealStack.line-same (parent (sizes S) i) (λ _. take (HealMend.keep u) u) C f1 in
           let stacked1 : HealStack.Stacked C1 Ss = HealStack.stacked-line C C1 Ss (HealStack.alike-same (sym line1)) stacked in
-          let path1 : HealPath.Path C1 (parent (sizes S) i) Ss (s .ns) (s .ps) =
+          let path1 : HealPath.Leads C1 (parent (sizes S) i) Ss (s .ns) (s .ps) =
           HealNext.path-shape C C1 (parent (sizes S) i) (s .ns) (s .ps) (sym (HealRows.upd-numAt (parent (sizes S) i) (parent (sizes S) i) (λ _. take (HealMend.keep u) u) C)) (HealStack.same-refl Ss) pathC in
           let once1 : HealMem.Once (nums C1 ++ numbers Ss) = rw (HealRows.upd-nums (parent (sizes S) i) (λ _. take (HealMend.keep u) u) C) onceC in
           let g : List Item → List Item = λ _. drop (HealMend.keep u) u in

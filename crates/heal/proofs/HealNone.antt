@@ -29,7 +29,7 @@ module _ {enc : List Item → List ℕ} {cap low : ℕ} {o : Ops} (law : Lawful 
     (ih : Heals up (length Ss))
     (s : State) (b : i < sum (sizes S)) (fill : Fill low cap (sizes S))
     (once : HealMem.Once (nums S ++ numbers Ss)) (hu : HealMem.HoldsUp (s .st) Ss)
-    (place : s .ps (length Ss) ≡ offset (sizes S) i) (path : HealPath.Path S (parent (sizes S) i) Ss (s .ns) (s .ps)) where
+    (place : s .ps (length Ss) ≡ offset (sizes S) i) (path : HealPath.Leads S (parent (sizes S) i) Ss (s .ns) (s .ps)) where
   par-in : parent (sizes S) i < length S
   par-in = parent-there S i b
 

@@ -39,7 +39,7 @@ pub ready-cut : {o : Ops} (law : Lawful o innerWords 8 4) (N l : ℕ) (s : State
 ready-cut {o} law N l s e = from (e .rows) (e .level) (e .stacked) (e .within) (e .up) (e .path)
   where
     from : (rows : List Row) → length rows ≡ suc l → HealStack.Stacked (e .row) rows → Within N (HealRows.numAt (e .row) (e .at) ∷ numbers rows) (s .free) → HealMem.HoldsUp (s .st) rows →
-        HealPath.Path (e .row) (e .at) rows (s .ns) (s .ps) → Wounded innerWords 8 4 N l (parentCut o (freeNode s (s .ns (suc l))) l)
+        HealPath.Leads (e .row) (e .at) rows (s .ns) (s .ps) → Wounded innerWords 8 4 N l (parentCut o (freeNode s (s .ns (suc l))) l)
     from [] q st within up p = absurd (omega arith)
     from (S ∷ Ss) q st within up p =
         let q′ : length Ss ≡ l = omega arith in
@@ -72,7 +72,7 @@ module _ {enc : List Item → List ℕ} {cap low : ℕ} {o : Ops} (law : Lawful 
   pub len-C : length C ≡ length (w .row)
   len-C = cut-length (w .at) (w .row)
 
-  pub pathC : HealPath.Path C (parent (sizes (w .row)) (w .at)) (w .rows) (s .ns) (s .ps)
+  pub pathC : HealPath.Leads C (parent (sizes (w .row)) (w .at)) (w .rows) (s .ns) (s .ps)
   pathC = cut-path (w .at) (w .row) (w .rows) (s .ns) (s .ps) (w .path)
 
   -- heal_level calls empty_node

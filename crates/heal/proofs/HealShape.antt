@@ -56,13 +56,13 @@ pub record Exit (R′ : Row) (j num : ℕ) (Ss : List Row) (s s′ : State) : Ty
   pub free : s′ .free ≡ pushAll (num ∷ freedUp j Ss) (s .free)
   pub deeper : (l : ℕ) → length Ss < l → s′ .ns l ≡ s .ns l
   pub places : (l : ℕ) → length Ss ≤ l → s′ .ps l ≡ s .ps l
-  pub stands : Where (length R′) j (HealPath.Path R′ j rows (s′ .ns) (s′ .ps)) (s .live) (s′ .live)
+  pub stands : Where (length R′) j (HealPath.Leads R′ j rows (s′ .ns) (s′ .ps)) (s .live) (s′ .live)
 
 -- `up` is right as empty_node at level l
 abbrev pub Heals : (State → State) → ℕ → Type 0
 Heals up l =
     (R R′ : Row) (j : ℕ) (Ss : List Row) (s : State) → length Ss ≡ l → HealStep.Gap R′ R j → j < length R → 2 ≤ length R → HealStack.Stacked R Ss →
-    HealMem.Once (HealRows.numAt R j ∷ numbers Ss) → HealMem.HoldsUp (s .st) Ss → HealPath.Path R j Ss (s .ns) (s .ps) → Exit R′ j (HealRows.numAt R j) Ss s (up s)
+    HealMem.Once (HealRows.numAt R j ∷ numbers Ss) → HealMem.HoldsUp (s .st) Ss → HealPath.Leads R j Ss (s .ns) (s .ps) → Exit R′ j (HealRows.numAt R j) Ss s (up s)
 
 -- what heal_level leaves of a row S cut at position i, and of the rows above it: the row is now M
 pub record Mended (enc : List Item → List ℕ) (M : Row) (went : Bool) (i : ℕ) (S : Row) (Ss : List Row) (s s′ : State) : Type 0 where
@@ -76,7 +76,7 @@ pub record Mended (enc : List Item → List ℕ) (M : Row) (went : Bool) (i : �
   pub free : s′ .free ≡ pushAll (cond went (HealRows.numAt S (parent (sizes S) i) ∷ freedUp (parent (sizes S) i) Ss) []) (s .free)
   pub deeper : (l : ℕ) → length Ss < l → s′ .ns l ≡ s .ns l
   pub places : (l : ℕ) → length Ss < l → s′ .ps l ≡ s .ps l
-  pub stands : Where (sum (sizes M)) i ((s′ .ps (length Ss) ≡ offset (sizes M) i) × HealPath.Path M (parent (sizes M) i) rows (s′ .ns) (s′ .ps)) (s .live) (s′ .live)
+  pub stands : Where (sum (sizes M)) i ((s′ .ps (length Ss) ≡ offset (sizes M) i) × HealPath.Leads M (parent (sizes M) i) rows (s′ .ns) (s′ .ps)) (s .live) (s′ .live)
 
 -- Laws on sizes
 pub sizes-before : (j : ℕ) (f : List Item → List Item) (R : Row) → take j (sizes (HealRows.upd j f R)) ≡ take j (sizes R)

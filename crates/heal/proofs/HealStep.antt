@@ -194,7 +194,7 @@ ends (g ∷ gs) i b e = elim (test (ltb i g)) [
 -- Stores of a merge and of a share. The row's words are `enc`: leaves or inner nodes
 module _ (enc : List Item → List ℕ) (R : Row) (j : ℕ) (Ss : List Row) (st : HealMem.Store) (ns ps : ℕ → ℕ)
     (s : HealStack.Stacked R Ss) (h : suc j < length R)
-    (o : HealMem.Once (nums R ++ numbers Ss)) (hr : HealMem.Holds enc st R) (hu : HealMem.HoldsUp st Ss) (p : HealPath.Path R j Ss ns ps) where
+    (o : HealMem.Once (nums R ++ numbers Ss)) (hr : HealMem.Holds enc st R) (hu : HealMem.HoldsUp st Ss) (p : HealPath.Leads R j Ss ns ps) where
   apart : HealMem.Apart (nums R) (numbers Ss)
   apart = HealMem.once-append (nums R) (numbers Ss) o
 
@@ -241,7 +241,7 @@ pub record Merged (enc : List Item → List ℕ) (R : Row) (j : ℕ) (Ss : List 
   pub keeps : HealMem.Keeps st st′ (nums R ++ numbers Ss)
 
 pub merge-ready : (enc : List Item → List ℕ) (R : Row) (j : ℕ) (Ss : List Row) (st : HealMem.Store) (ns ps : ℕ → ℕ) → HealStack.Stacked R Ss → suc j < length R → 1 ≤ length (itemsAt R j) →
-    HealMem.Once (nums R ++ numbers Ss) → HealMem.Holds enc st R → HealMem.HoldsUp st Ss → HealPath.Path R j Ss ns ps → (w : List ℕ) → w ≡ enc (itemsAt R j ++ itemsAt R (suc j)) →
+    HealMem.Once (nums R ++ numbers Ss) → HealMem.Holds enc st R → HealMem.HoldsUp st Ss → HealPath.Leads R j Ss ns ps → (w : List ℕ) → w ≡ enc (itemsAt R j ++ itemsAt R (suc j)) →
     Merged enc R j Ss st (handKey (HealMem.put st (HealRows.numAt R (suc j)) w) ns ps (length Ss))
 merge-ready enc R j [] st ns ps s h one o hr hu p w e = absurd (omega arith)
 merge-ready enc R zero (S ∷ Ss) st ns ps s h one o hr hu p w e =

@@ -75,7 +75,7 @@ module _ {enc : List Item → List ℕ} {cap low : ℕ} {leaf inner : Ops} (leaf
   module _ (key-is : (xs : List Item) → 1 ≤ length xs → key (enc xs) ≡ front xs) (L : Row) (Rs : List Row) (i : ℕ) (s : State)
       (b : i < sum (sizes L)) (fill : Fill low cap (sizes L)) (stacked : HealStack.Stacked L Rs) (once : HealMem.Once (nums L ++ numbers Rs))
       (row : HealMem.Holds enc (s .st) L) (up : HealMem.HoldsUp (s .st) Rs)
-      (place : s .ps (length Rs) ≡ offset (sizes L) i) (path : HealPath.Path L (parent (sizes L) i) Rs (s .ns) (s .ps)) where
+      (place : s .ps (length Rs) ≡ offset (sizes L) i) (path : HealPath.Leads L (parent (sizes L) i) Rs (s .ns) (s .ps)) where
     par-in : parent (sizes L) i < length L
     par-in = parent-there L i b
 

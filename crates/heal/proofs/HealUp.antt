@@ -35,7 +35,7 @@ use Rattle.heal.proofs.HealCut.{cut-left}
 module _ {o : Ops} (law : Lawful o innerWords 8 4) (up : State → State) (R R′ : Row) (j : ℕ) (S : Row) (Ss : List Row)
     (ih : Heals up (length Ss))
     (s : State) (g : HealStep.Gap R′ R j) (h : j < length R) (two : 2 ≤ length R) (stacked : HealStack.Stacked R (S ∷ Ss))
-    (once : HealMem.Once (HealRows.numAt R j ∷ numbers (S ∷ Ss))) (hu : HealMem.HoldsUp (s .st) (S ∷ Ss)) (p : HealPath.Path R j (S ∷ Ss) (s .ns) (s .ps)) where
+    (once : HealMem.Once (HealRows.numAt R j ∷ numbers (S ∷ Ss))) (hu : HealMem.HoldsUp (s .st) (S ∷ Ss)) (p : HealPath.Leads R j (S ∷ Ss) (s .ns) (s .ps)) where
   abbrev n : ℕ
   n = HealRows.numAt R j
 
@@ -153,7 +153,7 @@ module _ {o : Ops} (law : Lawful o innerWords 8 4) (up : State → State) (R R�
 
   -- the state at the end has the words of sC, and another cursor
   leaves : (t : State) → t .st ≡ sC .st → t .free ≡ sC .free → ((x : ℕ) → suc (length Ss) < x → t .ns x ≡ sC .ns x) → t .ps ≡ sC .ps →
-      Where (length R′) j (HealPath.Path R′ j (dropAt j S ∷ mended .rows) (t .ns) (t .ps)) (s .live) (t .live) → Exit R′ j (HealRows.numAt R j) (S ∷ Ss) s t
+      Where (length R′) j (HealPath.Leads R′ j (dropAt j S ∷ mended .rows) (t .ns) (t .ps)) (s .live) (t .live) → Exit R′ j (HealRows.numAt R j) (S ∷ Ss) s t
   leaves t a f n-same p-same w = record {
     rows = dropAt j S ∷ mended .rows;
     shape = HealStack.also refl refl (mended .shape);

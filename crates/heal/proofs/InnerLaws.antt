@@ -12,7 +12,7 @@ use Rattle.node.specs.Nodes.{Inner, innerItems, innerCut, rekeyAt, statusOf}
 use Rattle.node.specs.declared.Removed.{Removed}
 use Rattle.node.specs.declared.Removed.the-variants.{Underflow}
 use Rattle.node.proofs.Words.{inner-is, length-items, length-rekeyAt}
-use Rattle.crit.specs.Asks.{Way, Leaves}
+use Rattle.crit.specs.Asks.{Route, Leaves}
 use Rattle.heal.specs.Steps.{both}
 use Rattle.heal.specs.Cycle.{innerKind, stayed, AskHeal, Cuts}
 use Rattle.crit.proofs.WayLaws.{Inside, way-here, way-block}
@@ -21,7 +21,7 @@ use Rattle.heal.proofs.WoundLaws.{Held}
 use Rattle.heal.proofs.JoinLaws
 pub use Rattle.forest.proofs.CountLaws.{inner-length}
 
-module _ {ws : List ℕ} {t : ℕ} {c : Cursor} {level : ℕ} (y : Way ws t c level) (h : 0 < level) (w : List ℕ) (e : w ≡ block ws t (getD (c .nodes) (level - 1) 0)) where
+module _ {ws : List ℕ} {t : ℕ} {c : Cursor} {level : ℕ} (y : Route ws t c level) (h : 0 < level) (w : List ℕ) (e : w ≡ block ws t (getD (c .nodes) (level - 1) 0)) where
   inside : Inside (y .mem .s .st) (y .mem .count) (getD (c .nodes) (level - 1) 0) (getD (c .places) (level - 1) 0)
   inside = way-here y (level - 1) (omega arith)
 

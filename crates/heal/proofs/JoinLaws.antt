@@ -21,7 +21,7 @@ use Rattle.node.specs.declared.Removed.{Removed}
 use Rattle.node.specs.declared.Removed.the-variants.{Underflow}
 use Rattle.node.proofs.OnItems.{balance-flag, balance-fits, balance-over}
 use Rattle.crit.specs.States.{rightSibling, rightSet, handKey, stored}
-use Rattle.crit.specs.Asks.{Mem, moved, Spelt, Way, Leaves}
+use Rattle.crit.specs.Asks.{Mem, moved, Spelt, Route, Leaves}
 use Rattle.heal.specs.Cycle.{Kind, left, fits, gathered, shared, stayed, AskHeal, AskJoin, Joined, Cuts}
 use Rattle.crit.proofs.HealMem
 use Rattle.crit.proofs.SpeltLaws.{spelt-block, spelt-placed, spelt-store, spelt-level, same-count}
@@ -173,7 +173,7 @@ module _ (k : Kind) (law : Lawful (k .ops) (k .words) (k .cap) (k .low)) (sixtee
         stored-right : (m : Mem) → Spelt ws t c m → Spelt vs t c (moved m (stored (m .s) (put (m .s .st) node (b .right))))
         stored-right m sp = rw e1 (spelt-store sp node (mate .some) (hi-of m sp) (b .right) right-length)
 
-        pub way-gathered : Way vs t c level
+        pub way-gathered : Route vs t c level
         way-gathered =
             heal-way-put k law (j .heal) (put (j .heal .mem .s .st) node (b .right))
             (HealMem.put-keeps (j .heal .mem .s .st) node (b .right) (nums (j .heal .ready .row)) (mate .inside)) (stored-right (j .heal .mem) (j .heal .spelt))
@@ -207,7 +207,7 @@ module _ (k : Kind) (law : Lawful (k .ops) (k .words) (k .cap) (k .low)) (sixtee
         pub left-placed : Placed vs t node
         left-placed = spelt-placed (stored-left (j .heal .mem) (j .heal .spelt)) node (mate .some) (mate .few)
 
-        pub way-shared : Way us′ t c level
+        pub way-shared : Route us′ t c level
         way-shared =
             heal-way-put k law (j .heal) (put (put (j .heal .mem .s .st) (j .heal .mem .s .ns level) (b .left)) node (b .right))
             (λ x z. HealMem.put-keeps (put (j .heal .mem .s .st) (j .heal .mem .s .ns level) (b .left)) node (b .right) (nums (j .heal .ready .row)) (mate .inside) x z ∙

@@ -19,7 +19,7 @@ use Rattle.node.proofs.Words.{leaf-is, length-pairs}
 use Rattle.crit.specs.Paths.{numAt}
 use Rattle.crit.specs.Asks.{moved, Leaves}
 use Rattle.heal.specs.Steps.{leafOps}
-use Rattle.heal.specs.Cycle.{leafKind, stayed, AskHeal, AskFront, Cuts, Stood}
+use Rattle.heal.specs.Cycle.{leafKind, stayed, AskHeal, AskFront, Cuts, AskPair}
 use Rattle.crit.proofs.HealMem
 use Rattle.crit.proofs.HealPath
 use Rattle.crit.proofs.SpeltLaws.{spelt-block, spelt-placed}
@@ -55,7 +55,7 @@ pub held-leaf : {N : ℕ} {R : Row} {st : Store} {n : ℕ} (r : Held leafWords 7
 held-leaf r w e = rw e (leaf-is (r .items) (r .one) (r .room))
 
 -- the leaf at the cursor
-module _ {ws : List ℕ} {t : ℕ} {c : Cursor} {level : ℕ} (a : Stood ws t c level) where
+module _ {ws : List ℕ} {t : ℕ} {c : Cursor} {level : ℕ} (a : AskPair ws t c level) where
   abbrev par : ℕ
   par = parent (sizes (a .row)) (a .at)
 

@@ -16,8 +16,8 @@ use Rattle.node.specs.Nodes.{statusOf}
 use Rattle.node.specs.declared.Removed.{Removed}
 use Rattle.node.specs.declared.Removed.the-variants.{Underflow}
 use Rattle.crit.specs.States.{State, rightSibling}
-use Rattle.crit.specs.Paths.{Stacked, Holds, HoldsUp, Path}
-use Rattle.crit.specs.Asks.{Mem, Spelt, Way, Finds, moved}
+use Rattle.crit.specs.Paths.{Stacked, Holds, HoldsUp, Leads}
+use Rattle.crit.specs.Asks.{Mem, Spelt, Route, Finds, moved}
 use Rattle.crit.specs.declared.Near.the-variants.{Right}
 use Rattle.heal.specs.Steps
 use Rattle.heal.specs.Steps.{Ops, leafOps, innerOps, parentCut, healLevel, underflowed, emptyNode}
@@ -116,7 +116,7 @@ pub record Mends (k : Kind) (ws vs : List ℕ) (t : ℕ) (c r : Cursor) (status 
   pub run : (m : Mem) → status ≡ standing k (m .s) level → Spelt ws t c m → Spelt vs t r (moved m (healed k level (m .s)))
 
 -- the cursor is on a pair of a tree that has another: L are its leaves under the rows Rs
-pub record Stood (ws : List ℕ) (t : ℕ) (c : Cursor) (level : ℕ) : Type 0 where
+pub record AskPair (ws : List ℕ) (t : ℕ) (c : Cursor) (level : ℕ) : Type 0 where
   pub deep : level < mostLevels
   pub mem : Mem
   pub spelt : Spelt ws t c mem
@@ -132,10 +132,10 @@ pub record Stood (ws : List ℕ) (t : ℕ) (c : Cursor) (level : ℕ) : Type 0 w
   pub holds : Holds leafWords (mem .s .st) row
   pub up : HoldsUp (mem .s .st) rows
   pub place : mem .s .ps (length rows) ≡ offset (sizes row) at
-  pub path : Path row (parent (sizes row) at) rows (mem .s .ns) (mem .s .ps)
+  pub path : Leads row (parent (sizes row) at) rows (mem .s .ns) (mem .s .ps)
 
 -- the leaf is cut, and its front key may have to change above
 pub record AskFront (ws : List ℕ) (t : ℕ) (c : Cursor) (level : ℕ) : Type 0 where
-  pub way : Way ws t c level
+  pub way : Route ws t c level
   pub some : 1 ≤ getD (c .nodes) level 0
   pub few : getD (c .nodes) level 0 ≤ way .mem .count

@@ -11,7 +11,7 @@ use Rattle.forest.specs.Rows.{Row, front, nums, sizes, line, itemsAt, Fill}
 use Rattle.forest.specs.Trees.{numbers}
 use Rattle.pool.specs.Stores.{noWords}
 use Rattle.crit.specs.States.{State}
-use Rattle.crit.specs.Paths.{upd, numAt, Alike, Stacked, Holds, HoldsUp, Path}
+use Rattle.crit.specs.Paths.{upd, numAt, Alike, Stacked, Holds, HoldsUp, Leads}
 
 -- each number is one of 1..N and stands once among xs and the free ones
 abbrev pub Within : ℕ → List ℕ → List ℕ → Type 0
@@ -39,7 +39,7 @@ pub record Emptied (N l : ℕ) (s : State) : Type 0 where
   pub stacked : Stacked row rows
   pub within : Within N (numAt row at ∷ numbers rows) (s .free)
   pub up : HoldsUp (s .st) rows
-  pub path : Path row at rows (s .ns) (s .ps)
+  pub path : Leads row at rows (s .ns) (s .ps)
 
 -- heal_level at level l: a node has lost item i of its row S, and has some left or none
 pub data Left (enc : List Item → List ℕ) (S : Row) (i : ℕ) (Ss : List Row) (s : State) : Type 0 where
@@ -57,5 +57,5 @@ pub record Wounded (enc : List Item → List ℕ) (cap low N l : ℕ) (s : State
   pub within : Within N (nums row ++ numbers rows) (s .free)
   pub up : HoldsUp (s .st) rows
   pub place : s .ps (length rows) ≡ offset (sizes row) at
-  pub path : Path row (parent (sizes row) at) rows (s .ns) (s .ps)
+  pub path : Leads row (parent (sizes row) at) rows (s .ns) (s .ps)
   pub left : Left enc row at rows s

@@ -1,9 +1,9 @@
 // Healing upward after an item went, as the crate's path.rs has it: the cut, the cycle of three, and the leaf at the bottom.
 ghost use Prim.Native.Nat.{_-_, _<_};
 ghost use Rattle.forest.specs.Sizes.{leafCap};
-ghost use Rattle.crit.specs.Asks.{Way, Leaves};
+ghost use Rattle.crit.specs.Asks.{Route, Leaves};
 ghost use Rattle.heal.specs.Steps.{leafOps, innerOps, leafFront, fronted, taken};
-ghost use Rattle.heal.specs.Cycle.{innerKind, leafKind, stayed, emptied, under, AskEmpty, AskHeal, AskJoin, AskJoinLeaf, AskFront, Joined, Cuts, Mends, Stood};
+ghost use Rattle.heal.specs.Cycle.{innerKind, leafKind, stayed, emptied, under, AskEmpty, AskHeal, AskJoin, AskJoinLeaf, AskFront, Joined, Cuts, Mends, AskPair};
 ghost use Rattle.node.specs.declared.Removed.{Removed};
 use crit::Near;
 use forest::Cursor;
@@ -11,7 +11,7 @@ use node::Removed;
 
 // The parent of the node at a level loses that child.
 fn cut_parent(ws: &mut [u32], t: usize, c: Cursor, level: usize) -> Removed
-    requires { ⌜ Way (now ws) t c level × (0 < level) ⌝ }
+    requires { ⌜ Route (now ws) t c level × (0 < level) ⌝ }
     ensures { λ r. ⌜ Cuts innerKind (now (ws .entry)) (now (ws .exit)) t c (level - 1) r ⌝ }
 {
     let l = level - 1;
@@ -190,7 +190,7 @@ fn heal_leaf(ws: &mut [u32], t: usize, c: Cursor, status: Removed, level: usize)
 
 // The leaf loses the pair that the cursor is on.
 fn cut_leaf(ws: &mut [u32], t: usize, c: Cursor, level: usize) -> Removed
-    requires { ⌜ Stood (now ws) t c level ⌝ }
+    requires { ⌜ AskPair (now ws) t c level ⌝ }
     ensures { λ r. ⌜ Cuts leafKind (now (ws .entry)) (now (ws .exit)) t c level r ⌝ }
 {
     let n = c.nodes[level];
@@ -220,7 +220,7 @@ fn update_front(ws: &mut [u32], t: usize, c: Cursor, level: usize)
 
 // Removes the pair that the cursor is on, from a tree that has another, and moves to the next pair.
 pub fn remove_pair(ws: &mut [u32], t: usize, c: Cursor, level: usize) -> Cursor
-    requires { ⌜ Stood (now ws) t c level ⌝ }
+    requires { ⌜ AskPair (now ws) t c level ⌝ }
     ensures { λ r. ⌜ Leaves (taken level) (now (ws .entry)) (now (ws .exit)) t c r ⌝ }
 {
     let status = cut_leaf(ws, t, c, level);

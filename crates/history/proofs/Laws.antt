@@ -23,6 +23,7 @@ use Rattle.forest.proofs.RunLaws.{answer-number, run-formed, demand-3}
 use Rattle.forest.proofs.UniqueLaws.{same-pool}
 use Rattle.forest.proofs.PromiseLaws.{calls-sound, moves-sound, calls-by, one-outcome-sound, one-outcome-unsound}
 use Rattle.sound.specs.Checks.{checked}
+use Rattle.sound.specs.Exact.{Exact}
 use Rattle.sound.proofs.CheckSteps.{exact}
 use Rattle.history.specs.Histories.{Made, by-key, took, sought, Ran, none, one, moved, counts, ownOf, answersOf, Independent, Went, stays, formats, calls, moves}
 
@@ -153,6 +154,12 @@ module _ (c : Call) (before x y : List ℕ) (r s : Answer) (a : Calls leafLeast 
     | is e ↦ one-outcome-sound leafLeast c before x y r s a b ((exact before true (sym e)) .yes refl)
     | isnt e ↦ one-outcome-unsound leafLeast c before x y r s a b (λ q. true≢false (sym ((exact before false (sym e)) .every q)))
   ]
+
+-- and so does that of the check
+pub one-check : (m : ℕ) (ws : List ℕ) (r s : Bool) → Exact m ws r → Exact m ws s → r ≡ s
+one-check m ws true s a b = sym (b .every (a .yes refl))
+one-check m ws false true a b = a .every (b .yes refl)
+one-check m ws false false a b = refl
 
 -- A call leaves as many words as there were
 pub same-length : (c : Call) (before after : List ℕ) (r : Answer) → Calls leafLeast c before after r → length after ≡ length before

@@ -6,7 +6,7 @@ use native.Mathlib.Omega.{arith}
 use lib.ListN.{length, take, drop, getD}
 use Rattle.forest.specs.Sizes.{leafLeast, leafCap}
 use Rattle.forest.specs.Lists.{sum, parent, offset, count}
-use Rattle.forest.specs.Pairs.{Item, Rising}
+use Rattle.forest.specs.Pairs.{Item, keys, Rising}
 use Rattle.forest.specs.Rows.{Row, Tree, sizes, nums, joined, line, itemsAt, Fill, Tower, Good}
 use Rattle.forest.specs.Trees.{numbers}
 use Rattle.forest.specs.Pools.{Pool, WellFormed, used, treeOf, encode, leafWords, innerWords, nodeWords, rootAbove}
@@ -17,11 +17,11 @@ use Rattle.forest.proofs.UniqueLaws
 use Rattle.forest.proofs.PoolLaws.{good-at}
 use Rattle.forest.proofs.CountLaws.{encode-length}
 use Rattle.forest.proofs.WordLaws.{count-append, count-at, count-row, count-tree, rowAt, leaf-words, inner-words, node-window}
-use Rattle.forest.proofs.Descent.{keys, line-rising}
+use Rattle.forest.proofs.Descent.{line-rising}
 use Rattle.forest.proofs.Six.{six-levels}
 use Rattle.path.specs.Ways.{base, blockAt, block, Lies, Deep}
 use Rattle.path.proofs.NodeWords.{links, link-word, link-at, links-line, group-end, inner-keys, leaf-keys}
-use Rattle.path.proofs.Searching.{keys-rise, stored-rise, items-rise}
+use Rattle.path.proofs.Searching.{stored-rise, items-rise}
 
 -- the nodes of a row lie in the words, each with the words of its items
 pub record RowIn (words : List Item → List ℕ) (ws : List ℕ) (t : ℕ) (R : Row) : Type 0 where
@@ -176,7 +176,7 @@ module _ (ws : List ℕ) (t : ℕ) where
           long = a .2;
           leaf = λ y. (omega arith, omega arith);
           inner = λ y. absurd (omega arith);
-          leaf-rises = λ y. rw (r .are j h, leaf-keys (itemsAt L j) (b .1)) (keys-rise (itemsAt L j) (items-rise L j (x .keys)));
+          leaf-rises = λ y. rw (r .are j h, leaf-keys (itemsAt L j) (b .1)) (items-rise L j (x .keys));
           inner-rises = λ y. absurd (omega arith);
         },
         λ i y z. absurd (omega arith),

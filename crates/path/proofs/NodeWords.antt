@@ -5,27 +5,22 @@ use mathlib.Core.Option.{none, some}
 use Prim.Native.Nat.{ℕ, zero, suc, _+_, _-_, _≤_, _<_}
 use native.Mathlib.Omega.{arith}
 use lib.ListN.{length, take, drop, getD, getElem?, length-map}
-use lib.Seq.{take-nil, getD-take, getD-drop, take-append-le, take-take, drop-drop}
+use lib.Seq.{take-nil, take-append-le, take-take, drop-drop}
 use borrow.Author.Tests.{lt-ltb, le-ltb}
 use Rattle.forest.specs.Lists.{sum, parent, offset, upto, pad}
 use Rattle.forest.specs.Slices.{keyPlace}
-use Rattle.forest.specs.Pairs.{Item, place}
+use Rattle.forest.specs.Pairs.{Item, keys, place}
 use Rattle.forest.specs.Rows.{Row, size, sizes, nums, joined, line, itemsAt}
 use Rattle.forest.specs.Pools.{leafWords, innerWords}
 use Rattle.forest.proofs.CountLaws.{length-pad}
 pub use Rattle.forest.proofs.WordLaws.{key-word, link-word}
-use Rattle.forest.proofs.Descent.{keys, stored}
+use Rattle.forest.proofs.Descent.{stored}
 use Rattle.path.specs.Ways.{blockAt, keysOf, turnOf, landOf}
 use Rattle.path.specs.declared.Way.the-variants.{Key, First, Last}
 
 -- the values or children of items
 abbrev pub links : List Item → List ℕ
 links xs = map (λ (x : Item). x .1) xs
-
--- a word of a block
-pub at-block : (ws : List ℕ) (b i : ℕ) → i < 16 → getD (blockAt ws b) i 0 ≡ getD ws (b + i) 0
-unfolding blockAt
-at-block ws b i h = getD-take 16 (drop b ws) i 0 h ∙ getD-drop b ws i 0
 
 -- the keys in a block
 pub block-keys : (ws : List ℕ) (b s : ℕ) → s ≤ 7 → take s (drop 1 (blockAt ws b)) ≡ take s (drop (b + 1) ws)
@@ -64,10 +59,6 @@ leaf-keys xs h =
     rw z (key-words (32 + length xs) (keys xs) (links xs) (omega (arith, length-map xs (λ (y : Item). y .0))))
 
 -- where a way goes in a node
-pub key-place : (k : ℕ) (xs : List Item) → keyPlace k (keys xs) ≡ place k xs
-key-place k [] = refl
-key-place k (x ∷ xs) = rw (key-place k xs)
-
 pub turn-key : (k : ℕ) (xs : List Item) → 1 ≤ length xs → length xs ≤ 8 → turnOf (Key k) (innerWords xs) ≡ upto k (stored xs)
 unfolding turnOf
 turn-key k xs a h = ap (upto k) (inner-keys xs a h)
@@ -82,7 +73,7 @@ turn-first w = refl
 
 pub land-key : (k : ℕ) (xs : List Item) → length xs ≤ 7 → landOf (Key k) (leafWords xs) ≡ place k xs
 unfolding landOf
-land-key k xs h = ap (keyPlace k) (leaf-keys xs h) ∙ key-place k xs
+land-key k xs h = ap (keyPlace k) (leaf-keys xs h)
 
 pub land-last : (xs : List Item) → landOf Last (leafWords xs) ≡ length xs - 1
 unfolding landOf

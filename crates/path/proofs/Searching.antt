@@ -7,13 +7,13 @@ use native.Mathlib.Omega.{arith}
 use lib.ListN.{length}
 use borrow.Author.Tests.{lt-ltb, le-ltb, le-leb, lt-leb, eq-eqb, ne-eqb}
 use Rattle.forest.specs.Lists.{upto}
-use Rattle.forest.specs.Pairs.{Item, Above, Rising}
+use Rattle.forest.specs.Pairs.{Item, Rising}
 use Rattle.forest.specs.Rows.{Row, joined, itemsAt}
 use Rattle.forest.specs.Slices.{KeysAbove, KeysRise, keyPlace, hasKey, searched}
 use Rattle.forest.specs.declared.Found.the-variants.{Here, Absent}
 use Rattle.forest.proofs.ListLaws.{tri, less, same, more, is, isnt, test, upto-length}
 use Rattle.forest.proofs.PairLaws.{rising-left, rising-right}
-use Rattle.forest.proofs.Descent.{keys, stored}
+use Rattle.forest.proofs.Descent.{stored}
 
 -- What is found
 
@@ -67,17 +67,9 @@ module _ (k : ℕ) (fs : List ℕ) (i : ℕ) (r : KeysRise fs) where
 
 -- Keys rise
 
-keys-above : (a : ℕ) (xs : List Item) → Above a xs → KeysAbove a (keys xs)
-keys-above a [] u = tt
-keys-above a (x ∷ xs) u = (u .0, keys-above a xs (u .1))
-
-pub keys-rise : (xs : List Item) → Rising xs → KeysRise (keys xs)
-keys-rise [] r = tt
-keys-rise (x ∷ xs) r = (keys-above (x .0) xs (r .0), keys-rise xs (r .1))
-
 pub stored-rise : (xs : List Item) → Rising xs → KeysRise (stored xs)
 stored-rise [] r = tt
-stored-rise (x ∷ xs) r = keys-rise xs (r .1)
+stored-rise (x ∷ xs) r = r .1
 
 -- and so in each node of a row in which they rise
 pub items-rise : (R : Row) (j : ℕ) → Rising (joined R) → Rising (itemsAt R j)

@@ -16,15 +16,14 @@ use Rattle.path.specs.Cores.{lookIn}
 use Rattle.path.specs.declared.Look.the-variants.{Pair, Nothing}
 use Rattle.path.specs.declared.Way.{Way}
 use Rattle.path.specs.declared.Way.the-variants.{Key, First, Last}
-use Rattle.path.proofs.NodeWords.{at-block, block-keys}
+pub use Rattle.forest.proofs.Slices.{first-block as first-word}
+use Rattle.forest.proofs.Slices.{at-block}
+use Rattle.path.proofs.NodeWords.{block-keys}
 use Rattle.path.proofs.Searching.{Stops, stops-here, stops-absent}
 use Rattle.path.proofs.Laid.{deep-lies, deep-child}
 use Rattle.path.proofs.CursorWords.{extends-none, extends-one, extends-more}
 
--- the first word of a block
-pub first-word : (ws : List ℕ) (b : ℕ) → getD (blockAt ws b) 0 0 ≡ getD ws b 0
-first-word ws b = let z : b + 0 ≡ b = omega arith in at-block ws b 0 (omega arith) ∙ ap (λ (x : ℕ). getD ws x 0) z
-
+-- a value or a child, a key
 pub link-word-at : (ws : List ℕ) (b i : ℕ) → i < 8 → getD (blockAt ws b) (8 + i) 0 ≡ getD ws (b + 8 + i) 0
 link-word-at ws b i h = let z : b + (8 + i) ≡ b + 8 + i = omega arith in at-block ws b (8 + i) (omega arith) ∙ ap (λ (x : ℕ). getD ws x 0) z
 

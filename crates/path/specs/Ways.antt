@@ -8,19 +8,13 @@ use lib.Dec.{leb}
 pub use Rattle.forest.specs.Sizes.{base}
 use Rattle.forest.specs.Sizes.{mostNodes}
 use Rattle.forest.specs.Lists.{upto}
+unfoldable pub use Rattle.forest.specs.Slices.{blockAt}
+pub use Rattle.forest.specs.Slices.{block}
 use Rattle.forest.specs.Slices.{KeysRise, keyPlace}
 use Rattle.forest.specs.Cursors.{Path, cursorAt}
 use Rattle.forest.specs.declared.Cursor.{Cursor}
 use Rattle.path.specs.declared.Way.{Way}
 use Rattle.path.specs.declared.Way.the-variants.{Key, First, Last}
-
--- the sixteen words from place b on
-unfoldable pub blockAt : List ℕ → ℕ → List ℕ
-blockAt ws b = take 16 (drop b ws)
-
--- the words of node n
-abbrev pub block : List ℕ → ℕ → ℕ → List ℕ
-block ws t n = blockAt ws (base t n)
 
 -- the keys in the words w of a node, whose word 0 adds `tag` to their number
 abbrev pub keysOf : ℕ → List ℕ → List ℕ

@@ -7,25 +7,23 @@ use native.Mathlib.Omega.{arith}
 use lib.ListN.{length, drop, getD, set, length-append, length-set, List·getD-append}
 use lib.Seq.{set-append-left, take-at, drop-at, drop-append-seam, getD-append-seam}
 use Rattle.forest.specs.Lists.{pad}
-use Rattle.forest.proofs.CountLaws.{length-pad}
-use Rattle.pool.specs.Stores.{Store, put, blocks, spell, Sixteen, base, patched, block, withBlock, stackAt, frees, Placed}
-use Rattle.pool.proofs.Spell.{put-same, put-other, blocks-ext, blocks-other}
-
-pub blocks-length : (st : Store) (n c : ℕ) → Sixteen st → length (blocks st n c) ≡ 16 * c
-blocks-length st n zero s = refl
-blocks-length st n (suc c) s = simp length-append (omega (arith, s n, blocks-length st (suc n) c s))
+use Rattle.forest.specs.Slices.{blockAt}
+use Rattle.forest.specs.Pools.{nodesFrom}
+use Rattle.forest.proofs.CountLaws.{length-pad, nodes-length}
+use Rattle.pool.specs.Stores.{Store, put, spell, Sixteen, base, patched, block, withBlock, stackAt, freeCount, Placed}
+use Rattle.pool.proofs.Spell.{put-same, put-other, nodes-ext, nodes-other}
 
 -- the words of node m + k among those of c nodes from m on
-blocks-split : (st : Store) (m c k : ℕ) → k < c → blocks st m c ≡ blocks st m k ++ (st (m + k) ++ blocks st (suc (m + k)) (c - suc k))
-blocks-split st m zero k h = absurd (omega arith)
-blocks-split st m (suc c) zero h =
+nodes-split : (st : Store) (m c k : ℕ) → k < c → nodesFrom st m c ≡ nodesFrom st m k ++ (st (m + k) ++ nodesFrom st (suc (m + k)) (c - suc k))
+nodes-split st m zero k h = absurd (omega arith)
+nodes-split st m (suc c) zero h =
     let y : m + 0 ≡ m = omega arith in
     let z : suc c - 1 ≡ c = omega arith in
     rw (y, z)
-blocks-split st m (suc c) (suc k) h =
+nodes-split st m (suc c) (suc k) h =
     let y : m + suc k ≡ suc m + k = omega arith in
     let z : suc c - suc (suc k) ≡ c - suc k = omega arith in
-    rw (y, z, append-assoc) (ap (st m ++_) (blocks-split st (suc m) c k (omega arith)))
+    rw (y, z, append-assoc) (ap (st m ++_) (nodes-split st (suc m) c k (omega arith)))
 
 regroup : (f x y z r : List ℕ) → f ++ ((x ++ (y ++ z)) ++ r) ≡ (f ++ x) ++ (y ++ (z ++ r))
 regroup f x y z r = simp append-assoc
@@ -44,8 +42,8 @@ module _ (roots : List ℕ) (N : ℕ) (st : Store) (free : List ℕ) (s : Sixtee
   pub spell-length : length (spell roots N st free) ≡ length roots + 17 * N + 3
   unfolding spell
   spell-length =
-      simp (length-append fore (blocks st 1 N ++ rear), length-append (blocks st 1 N) rear)
-      (omega (arith, fore-length, blocks-length st 1 N s, length-pad N (reverse free)))
+      simp (length-append fore (nodesFrom st 1 N ++ rear), length-append (nodesFrom st 1 N) rear)
+      (omega (arith, fore-length, nodes-length st 1 N s, length-pad N (reverse free)))
 
   -- T, N and F
   pub spell-trees : getD (spell roots N st free) 0 0 ≡ length roots
@@ -55,33 +53,33 @@ module _ (roots : List ℕ) (N : ℕ) (st : Store) (free : List ℕ) (s : Sixtee
   pub spell-nodes : getD (spell roots N st free) (length roots + 1) 0 ≡ N
   unfolding spell
   spell-nodes =
-      rw (add-one, append-assoc roots (N ∷ []) (blocks st 1 N ++ rear))
-      (getD-append-seam roots N (blocks st 1 N ++ rear) 0)
+      rw (add-one, append-assoc roots (N ∷ []) (nodesFrom st 1 N ++ rear))
+      (getD-append-seam roots N (nodesFrom st 1 N ++ rear) 0)
 
   pub spell-stackAt : stackAt (spell roots N st free) (length roots) ≡ length roots + 2 + 16 * N
   spell-stackAt = rw spell-nodes
 
   -- the words from F on
-  pub spell-rear : spell roots N st free ≡ (fore ++ blocks st 1 N) ++ rear
+  pub spell-rear : spell roots N st free ≡ (fore ++ nodesFrom st 1 N) ++ rear
   unfolding spell
-  spell-rear = sym (append-assoc fore (blocks st 1 N) rear)
+  spell-rear = sym (append-assoc fore (nodesFrom st 1 N) rear)
 
-  pub front-length : length (fore ++ blocks st 1 N) ≡ length roots + 2 + 16 * N
-  front-length = length-append fore (blocks st 1 N) ∙ omega (arith, fore-length, blocks-length st 1 N s)
+  pub front-length : length (fore ++ nodesFrom st 1 N) ≡ length roots + 2 + 16 * N
+  front-length = length-append fore (nodesFrom st 1 N) ∙ omega (arith, fore-length, nodes-length st 1 N s)
 
-  pub spell-frees : frees (spell roots N st free) (length roots) ≡ length free
-  spell-frees = rw (spell-stackAt, spell-rear, ← front-length) (getD-append-seam (fore ++ blocks st 1 N) (length free) (pad N (reverse free)) 0)
+  pub spell-frees : freeCount (spell roots N st free) (length roots) ≡ length free
+  spell-frees = rw (spell-stackAt, spell-rear, ← front-length) (getD-append-seam (fore ++ nodesFrom st 1 N) (length free) (pad N (reverse free)) 0)
 
   -- the root of tree i
   pub spell-root : (i : ℕ) → i < length roots → getD (spell roots N st free) (i + 1) 0 ≡ getD roots i 0
   unfolding spell
-  spell-root i h = rw (add-one, append-assoc roots (N ∷ []) (blocks st 1 N ++ rear)) (List·getD-append roots (N ∷ [] ++ (blocks st 1 N ++ rear)) 0 i h)
+  spell-root i h = rw (add-one, append-assoc roots (N ∷ []) (nodesFrom st 1 N ++ rear)) (List·getD-append roots (N ∷ [] ++ (nodesFrom st 1 N ++ rear)) 0 i h)
 
   pub spell-set-root : (i n : ℕ) → i < length roots → set (spell roots N st free) (i + 1) n ≡ spell (set roots i n) N st free
   unfolding spell
   spell-set-root i n h =
-      rw (add-one, length-set roots i n, append-assoc roots (N ∷ []) (blocks st 1 N ++ rear), append-assoc (set roots i n) (N ∷ []) (blocks st 1 N ++ rear))
-      (ap (length roots ∷_) (set-append-left roots (N ∷ [] ++ (blocks st 1 N ++ rear)) i n h))
+      rw (add-one, length-set roots i n, append-assoc roots (N ∷ []) (nodesFrom st 1 N ++ rear), append-assoc (set roots i n) (N ∷ []) (nodesFrom st 1 N ++ rear))
+      (ap (length roots ∷_) (set-append-left roots (N ∷ [] ++ (nodesFrom st 1 N ++ rear)) i n h))
 
   module _ (n : ℕ) (lo : 1 ≤ n) (hi : n ≤ N) where
     pub spell-placed : Placed (spell roots N st free) (length roots) n
@@ -89,24 +87,24 @@ module _ (roots : List ℕ) (N : ℕ) (st : Store) (free : List ℕ) (s : Sixtee
 
     -- the words before those of node n, and after them
     abbrev before : List ℕ
-    before = fore ++ blocks st 1 (n - 1)
+    before = fore ++ nodesFrom st 1 (n - 1)
 
     abbrev after : List ℕ
-    after = blocks st (suc n) (N - n) ++ rear
+    after = nodesFrom st (suc n) (N - n) ++ rear
 
     before-length : length before ≡ base (length roots) n
-    before-length = length-append fore (blocks st 1 (n - 1)) ∙ omega (arith, fore-length, blocks-length st 1 (n - 1) s)
+    before-length = length-append fore (nodesFrom st 1 (n - 1)) ∙ omega (arith, fore-length, nodes-length st 1 (n - 1) s)
 
     spell-split : spell roots N st free ≡ before ++ (st n ++ after)
     unfolding spell
     spell-split =
         let y : 1 + (n - 1) ≡ n = omega arith in
         let z : N - suc (n - 1) ≡ N - n = omega arith in
-        let e : blocks st 1 N ≡ blocks st 1 (n - 1) ++ (st n ++ blocks st (suc n) (N - n)) = rw (y, z) at (blocks-split st 1 N (n - 1) (omega arith)) in
-        rw e (regroup fore (blocks st 1 (n - 1)) (st n) (blocks st (suc n) (N - n)) rear)
+        let e : nodesFrom st 1 N ≡ nodesFrom st 1 (n - 1) ++ (st n ++ nodesFrom st (suc n) (N - n)) = rw (y, z) at (nodes-split st 1 N (n - 1) (omega arith)) in
+        rw e (regroup fore (nodesFrom st 1 (n - 1)) (st n) (nodesFrom st (suc n) (N - n)) rear)
 
     pub spell-block : block (spell roots N st free) (length roots) n ≡ st n
-    unfolding block
+    unfolding blockAt
     spell-block = rw (spell-split, drop-at before (st n ++ after) (base (length roots) n) before-length) (take-at (st n) after 16 (s n))
 
     -- the same of a store with other words for n
@@ -115,10 +113,10 @@ module _ (roots : List ℕ) (N : ℕ) (st : Store) (free : List ℕ) (s : Sixtee
     other-split w h =
         let y : 1 + (n - 1) ≡ n = omega arith in
         let z : N - suc (n - 1) ≡ N - n = omega arith in
-        let e : blocks (put st n w) 1 N ≡ blocks (put st n w) 1 (n - 1) ++ (put st n w n ++ blocks (put st n w) (suc n) (N - n)) =
-        rw (y, z) at (blocks-split (put st n w) 1 N (n - 1) (omega arith)) in
-        rw (e, put-same st n w, blocks-other st n w (suc n) (N - n) (omega arith), blocks-ext (put st n w) st 1 (n - 1) (λ x a b. put-other st n w x (λ q. omega arith)))
-        (regroup fore (blocks st 1 (n - 1)) w (blocks st (suc n) (N - n)) rear)
+        let e : nodesFrom (put st n w) 1 N ≡ nodesFrom (put st n w) 1 (n - 1) ++ (put st n w n ++ nodesFrom (put st n w) (suc n) (N - n)) =
+        rw (y, z) at (nodes-split (put st n w) 1 N (n - 1) (omega arith)) in
+        rw (e, put-same st n w, nodes-other st n w (suc n) (N - n) (omega arith), nodes-ext (put st n w) st 1 (n - 1) (λ x a b. put-other st n w x (λ q. omega arith)))
+        (regroup fore (nodesFrom st 1 (n - 1)) w (nodesFrom st (suc n) (N - n)) rear)
 
     -- node n gets other words
     pub spell-withBlock : (w : List ℕ) → length w ≡ 16 → withBlock (spell roots N st free) (length roots) n w ≡ spell roots N (put st n w) free

@@ -12,7 +12,7 @@ use Rattle.forest.specs.Sizes.{mostTrees, mostNodes}
 use Rattle.forest.specs.Lists.{pad}
 use Rattle.forest.specs.Rows.{Tree}
 use Rattle.forest.specs.Answers.{nothing, refusal}
-use Rattle.forest.specs.Pools.{inTrees, nodesFrom, root, encode, fresh, fresh-stack, formatted, formatWords, formatAnswer, Sound}
+use Rattle.forest.specs.Pools.{inTrees, nodeWords, nodesFrom, root, encode, fresh, fresh-stack, formatted, formatWords, formatAnswer, Sound}
 use Rattle.forest.proofs.CountLaws.{fresh-formed}
 use Rattle.forest.proofs.ListLaws.{is, isnt, test, four}
 use Rattle.pool.specs.Stores.{patched, down}
@@ -59,7 +59,7 @@ fresh-node : (T n : ℕ) → inTrees n (replicate T []) (pad 16 []) ≡ replicat
 fresh-node zero n = refl
 fresh-node (suc T) n = fresh-node T n
 
-fresh-nodes : (T n c : ℕ) → nodesFrom (replicate T []) n c ≡ replicate (16 * c) 0
+fresh-nodes : (T n c : ℕ) → nodesFrom (nodeWords (replicate T [])) n c ≡ replicate (16 * c) 0
 fresh-nodes T n zero = refl
 fresh-nodes T n (suc c) =
     let e : 16 + 16 * c ≡ 16 * suc c = omega arith in

@@ -6,7 +6,8 @@ use native.Mathlib.Numerals.{add-one}
 use native.Mathlib.Omega.{arith}
 use lib.ListN.{length, take, drop, set, getD, length-append, length-take, length-drop, replicate, length-replicate, getD-replicate}
 use lib.Seq.{take-suc, take-suc-set, paste, paste-suc, take-length, take-all, take-at, set-split, getD-drop}
-use Rattle.pool.specs.Stores.{patched, block, withBlock, base, stackAt, frees, topNode, noWords, takenWords, pushedWords, freedWords}
+use Rattle.forest.specs.Slices.{blockAt}
+use Rattle.pool.specs.Stores.{patched, block, withBlock, base, stackAt, freeCount, topNode, noWords, takenWords, pushedWords, freedWords}
 
 -- a turn of the copy out of the words: o is the array so far
 pub copied-out : (ws o : List ℕ) (b i : ℕ) → b + i < length ws → i < length o → take i o ≡ take i (drop b ws) →
@@ -15,7 +16,7 @@ copied-out ws o b i h p e =
     rw (add-one, take-suc-set o i (getD ws (b + i) 0) p, e, take-suc (drop b ws) i 0 (simp length-drop (omega arith)), getD-drop)
 
 pub copied-all : (ws o : List ℕ) (t n i : ℕ) → i ≡ 16 → length o ≡ 16 → take i o ≡ take i (drop (base t n) ws) → o ≡ block ws t n
-unfolding block
+unfolding blockAt
 copied-all ws o t n i f h e = sym (take-all i o (omega arith)) ∙ e ∙ ap (λ (j : ℕ). take j (drop (base t n) ws)) f
 
 -- a turn of a loop that stores the words of s from place a on
@@ -54,7 +55,7 @@ begun ws l s a h k e =
     (take-at (l ++ s) (drop (a + length s) ws) (a + length s) (simp length-append (omega arith)))
 
 -- the stores of `alloc_node` and `free_node`
-module _ (ws : List ℕ) (t at f : ℕ) (here : at ≡ stackAt ws t) (full : f ≡ frees ws t) where
+module _ (ws : List ℕ) (t at f : ℕ) (here : at ≡ stackAt ws t) (full : f ≡ freeCount ws t) where
   pub taken : set (set ws at (f - 1)) (at + f) 0 ≡ takenWords ws t
   unfolding takenWords
   taken = rw (here, full)

@@ -7,10 +7,10 @@ use lib.ListN.{length, getD, set, length-append, length-map, List·getD-append}
 use lib.Seq.{getD-append-add, set-append-left}
 use borrow.Author.Tests.{eq-eqb, ne-eqb}
 use Rattle.forest.specs.Lists.{pad}
-use Rattle.forest.specs.Rows.{Tree}
 use Rattle.forest.specs.Pools
+use Rattle.forest.specs.Pools.{nodesFrom}
 use Rattle.forest.proofs.ListLaws.{set-right}
-use Rattle.pool.specs.Stores.{Store, put, blocks, spell, Sixteen, base}
+use Rattle.pool.specs.Stores.{Store, put, spell, Sixteen, base}
 
 pub put-same : (st : Store) (n : ℕ) (w : List ℕ) → put st n w n ≡ w
 put-same st n w = simp (eq-eqb n n refl)
@@ -18,56 +18,51 @@ put-same st n w = simp (eq-eqb n n refl)
 pub put-other : (st : Store) (n : ℕ) (w : List ℕ) (x : ℕ) → (x ≡ n → ⊥) → put st n w x ≡ st x
 put-other st n w x h = simp (ne-eqb x n h)
 
-blocks-nodes : (ts : List Tree) (n c : ℕ) → Pools.nodesFrom ts n c ≡ blocks (Pools.nodeWords ts) n c
-blocks-nodes ts n zero = refl
-blocks-nodes ts n (suc c) = ap (Pools.nodeWords ts n ++_) (blocks-nodes ts (suc n) c)
-
 pub encode-spell : (p : Pools.Pool) → Pools.encode p ≡ spell (map Pools.root (p .trees)) (p .count) (Pools.nodeWords (p .trees)) (p .free)
 unfolding Pools.encode spell
 encode-spell p =
     rw (
       length-map (p .trees) Pools.root,
-      blocks-nodes (p .trees) 1 (p .count),
-      append-assoc (map Pools.root (p .trees)) (p .count ∷ []) (blocks (Pools.nodeWords (p .trees)) 1 (p .count) ++ (length (p .free) ∷ pad (p .count) (reverse (p .free)))),
+      append-assoc (map Pools.root (p .trees)) (p .count ∷ []) (nodesFrom (Pools.nodeWords (p .trees)) 1 (p .count) ++ (length (p .free) ∷ pad (p .count) (reverse (p .free)))),
     )
 
 -- stores that agree on 1..N spell the same
-pub blocks-ext : (st st′ : Store) (n c : ℕ) → ((x : ℕ) → n ≤ x → x < n + c → st x ≡ st′ x) → blocks st n c ≡ blocks st′ n c
-blocks-ext st st′ n zero h = refl
-blocks-ext st st′ n (suc c) h = rw (h n (omega arith) (omega arith), blocks-ext st st′ (suc n) c (λ x a b. h x (omega arith) (omega arith)))
+pub nodes-ext : (st st′ : Store) (n c : ℕ) → ((x : ℕ) → n ≤ x → x < n + c → st x ≡ st′ x) → nodesFrom st n c ≡ nodesFrom st′ n c
+nodes-ext st st′ n zero h = refl
+nodes-ext st st′ n (suc c) h = rw (h n (omega arith) (omega arith), nodes-ext st st′ (suc n) c (λ x a b. h x (omega arith) (omega arith)))
 
 pub spell-ext : (roots : List ℕ) (N : ℕ) (st st′ : Store) (free : List ℕ) → ((x : ℕ) → 1 ≤ x → x ≤ N → st x ≡ st′ x) → spell roots N st free ≡ spell roots N st′ free
 unfolding spell
-spell-ext roots N st st′ free h = rw (blocks-ext st st′ 1 N (λ x a b. h x a (omega arith)))
+spell-ext roots N st st′ free h = rw (nodes-ext st st′ 1 N (λ x a b. h x a (omega arith)))
 
-pub blocks-other : (st : Store) (m : ℕ) (w : List ℕ) (n c : ℕ) → m < n → blocks (put st m w) n c ≡ blocks st n c
-blocks-other st m w n c h = blocks-ext (put st m w) st n c (λ x a b. put-other st m w x (λ q. omega arith))
+pub nodes-other : (st : Store) (m : ℕ) (w : List ℕ) (n c : ℕ) → m < n → nodesFrom (put st m w) n c ≡ nodesFrom st n c
+nodes-other st m w n c h = nodes-ext (put st m w) st n c (λ x a b. put-other st m w x (λ q. omega arith))
 
 -- one word
-blocks-read : (st : Store) (post : List ℕ) (m c k i : ℕ) → Sixteen st → k < c → i < 16 → getD (blocks st m c ++ post) (16 * k + i) 0 ≡ getD (st (m + k)) i 0
-blocks-read st post m zero k i s h l = absurd (omega arith)
-blocks-read st post m (suc c) zero i s h l =
+nodes-read : (st : Store) (post : List ℕ) (m c k i : ℕ) → Sixteen st → k < c → i < 16 → getD (nodesFrom st m c ++ post) (16 * k + i) 0 ≡ getD (st (m + k)) i 0
+nodes-read st post m zero k i s h l = absurd (omega arith)
+nodes-read st post m (suc c) zero i s h l =
     let z : 16 * 0 + i ≡ i = omega arith in
     let y : m + 0 ≡ m = omega arith in
-    rw (z, y, append-assoc) (List·getD-append (st m) (blocks st (suc m) c ++ post) 0 i (rw (s m) l))
-blocks-read st post m (suc c) (suc k) i s h l =
+    rw (z, y, append-assoc) (List·getD-append (st m) (nodesFrom st (suc m) c ++ post) 0 i (rw (s m) l))
+nodes-read st post m (suc c) (suc k) i s h l =
     let z : 16 * suc k + i ≡ length (st m) + (16 * k + i) = omega (arith, s m) in
     let y : m + suc k ≡ suc m + k = omega arith in
-    rw (z, y, append-assoc) (getD-append-add (st m) (blocks st (suc m) c ++ post) (16 * k + i) 0 ∙ blocks-read st post (suc m) c k i s (omega arith) l)
+    rw (z, y, append-assoc) (getD-append-add (st m) (nodesFrom st (suc m) c ++ post) (16 * k + i) 0 ∙ nodes-read st post (suc m) c k i s (omega arith) l)
 
-blocks-write : (st : Store) (post : List ℕ) (m c k i v : ℕ) → Sixteen st → k < c → i < 16 →
-    set (blocks st m c ++ post) (16 * k + i) v ≡ blocks (put st (m + k) (set (st (m + k)) i v)) m c ++ post
-blocks-write st post m zero k i v s h l = absurd (omega arith)
-blocks-write st post m (suc c) zero i v s h l =
+nodes-write : (st : Store) (post : List ℕ) (m c k i v : ℕ) → Sixteen st → k < c → i < 16 →
+    set (nodesFrom st m c ++ post) (16 * k + i) v ≡ nodesFrom (put st (m + k) (set (st (m + k)) i v)) m c ++ post
+nodes-write st post m zero k i v s h l = absurd (omega arith)
+nodes-write st post m (suc c) zero i v s h l =
     let z : 16 * 0 + i ≡ i = omega arith in
     let y : m + 0 ≡ m = omega arith in
-    rw (z, y, put-same st m (set (st m) i v), blocks-other st m (set (st m) i v) (suc m) c (omega arith), append-assoc, append-assoc)
-    (set-append-left (st m) (blocks st (suc m) c ++ post) i v (rw (s m) l))
-blocks-write st post m (suc c) (suc k) i v s h l =
+    rw (z, y, put-same st m (set (st m) i v), nodes-other st m (set (st m) i v) (suc m) c (omega arith), append-assoc, append-assoc)
+    (set-append-left (st m) (nodesFrom st (suc m) c ++ post) i v (rw (s m) l))
+nodes-write st post m (suc c) (suc k) i v s h l =
     let z : 16 * suc k + i ≡ length (st m) + (16 * k + i) = omega (arith, s m) in
     let y : m + suc k ≡ suc m + k = omega arith in
     rw (z, y, put-other st (suc m + k) (set (st (suc m + k)) i v) m (λ q. omega arith), append-assoc, append-assoc)
-    (set-right (16 * k + i) v (st m) (blocks st (suc m) c ++ post) ∙ ap (st m ++_) (blocks-write st post (suc m) c k i v s (omega arith) l))
+    (set-right (16 * k + i) v (st m) (nodesFrom st (suc m) c ++ post) ∙ ap (st m ++_) (nodes-write st post (suc m) c k i v s (omega arith) l))
 
 module _ (roots : List ℕ) (N : ℕ) (st : Store) (free : List ℕ) (s : Sixteen st) (n : ℕ) (lo : 1 ≤ n) (hi : n ≤ N) where
   abbrev pre : List ℕ
@@ -81,13 +76,13 @@ module _ (roots : List ℕ) (N : ℕ) (st : Store) (free : List ℕ) (s : Sixtee
   read i l =
       let z : base (length roots) n + i ≡ length pre + (16 * (n - 1) + i) = omega (arith, pre-length) in
       let y : 1 + (n - 1) ≡ n = omega arith in
-      rw z (getD-append-add pre (blocks st 1 N ++ (length free ∷ pad N (reverse free))) (16 * (n - 1) + i) 0 ∙
-      blocks-read st (length free ∷ pad N (reverse free)) 1 N (n - 1) i s (omega arith) l ∙ rw y refl)
+      rw z (getD-append-add pre (nodesFrom st 1 N ++ (length free ∷ pad N (reverse free))) (16 * (n - 1) + i) 0 ∙
+      nodes-read st (length free ∷ pad N (reverse free)) 1 N (n - 1) i s (omega arith) l ∙ rw y refl)
 
   pub write : (i v : ℕ) → i < 16 → set (spell roots N st free) (base (length roots) n + i) v ≡ spell roots N (put st n (set (st n) i v)) free
   unfolding spell
   write i v l =
       let z : base (length roots) n + i ≡ length pre + (16 * (n - 1) + i) = omega (arith, pre-length) in
       let y : 1 + (n - 1) ≡ n = omega arith in
-      rw z (set-right (16 * (n - 1) + i) v pre (blocks st 1 N ++ (length free ∷ pad N (reverse free))) ∙
-      ap (pre ++_) (blocks-write st (length free ∷ pad N (reverse free)) 1 N (n - 1) i v s (omega arith) l ∙ rw y refl))
+      rw z (set-right (16 * (n - 1) + i) v pre (nodesFrom st 1 N ++ (length free ∷ pad N (reverse free))) ∙
+      ap (pre ++_) (nodes-write st (length free ∷ pad N (reverse free)) 1 N (n - 1) i v s (omega arith) l ∙ rw y refl))

@@ -9,7 +9,8 @@ use lib.Seq.{getD-append-add, getD-at, set-at}
 use Rattle.forest.specs.Sizes.{mostNodes}
 use Rattle.forest.specs.Lists.{pad}
 use Rattle.forest.proofs.ListLaws.{set-right}
-use Rattle.pool.specs.Stores.{Store, put, blocks, spell, Sixteen, noWords, topNode, takenWords, pushedWords, freedWords, Stocked, Freeable}
+use Rattle.forest.specs.Pools.{nodesFrom}
+use Rattle.pool.specs.Stores.{Store, put, spell, Sixteen, noWords, topNode, takenWords, pushedWords, freedWords, Stocked, Freeable}
 use Rattle.pool.proofs.Bridges.{fore, spell-length, spell-stackAt, spell-frees, spell-rear, front-length, spell-placed, spell-withBlock}
 
 -- a list that is padded with zeros
@@ -52,7 +53,7 @@ module _ (roots : List ℕ) (N : ℕ) (st : Store) (free : List ℕ) (s : Sixtee
     abbrev topped : List ℕ
     topped = spell roots N st (x ∷ free)
 
-    topped-rear : topped ≡ (fore roots N st (x ∷ free) s ++ blocks st 1 N) ++ (suc (length free) ∷ (reverse free ++ (x ∷ gap)))
+    topped-rear : topped ≡ (fore roots N st (x ∷ free) s ++ nodesFrom st 1 N) ++ (suc (length free) ∷ (reverse free ++ (x ∷ gap)))
     topped-rear = spell-rear roots N st (x ∷ free) s ∙ rw (pad-top N x free room)
 
     pub spell-stocked : Stocked topped (length roots)
@@ -64,7 +65,7 @@ module _ (roots : List ℕ) (N : ℕ) (st : Store) (free : List ℕ) (s : Sixtee
     -- the top is x
     pub spell-top : topNode topped (length roots) ≡ x
     spell-top =
-        let f = fore roots N st (x ∷ free) s ++ blocks st 1 N in
+        let f = fore roots N st (x ∷ free) s ++ nodesFrom st 1 N in
         rw (spell-frees roots N st (x ∷ free) s, spell-stackAt roots N st (x ∷ free) s, topped-rear, ← (front-length roots N st (x ∷ free) s))
         (getD-append-add f (suc (length free) ∷ (reverse free ++ (x ∷ gap))) (suc (length free)) 0 ∙ getD-at (reverse free) x gap 0 (length free) (length-reverse free))
 
@@ -72,7 +73,7 @@ module _ (roots : List ℕ) (N : ℕ) (st : Store) (free : List ℕ) (s : Sixtee
     pub spell-taken : takenWords topped (length roots) ≡ spell roots N st free
     unfolding takenWords
     spell-taken =
-        let f = fore roots N st (x ∷ free) s ++ blocks st 1 N in
+        let f = fore roots N st (x ∷ free) s ++ nodesFrom st 1 N in
         let e : suc (length free) - 1 ≡ length free = omega arith in
         rw (spell-frees roots N st (x ∷ free) s, spell-stackAt roots N st (x ∷ free) s, topped-rear, e)
         (two-sets f (reverse free) gap (suc (length free)) (length free) x 0 at (length free) (front-length roots N st (x ∷ free) s) (length-reverse free)
@@ -82,7 +83,7 @@ module _ (roots : List ℕ) (N : ℕ) (st : Store) (free : List ℕ) (s : Sixtee
   pub spell-pushed : (n : ℕ) → pushedWords (spell roots N st free) (length roots) n ≡ spell roots N st (n ∷ free)
   unfolding pushedWords
   spell-pushed n =
-      let f = fore roots N st free s ++ blocks st 1 N in
+      let f = fore roots N st free s ++ nodesFrom st 1 N in
       let e : spell roots N st free ≡ f ++ (length free ∷ (reverse free ++ (0 ∷ gap))) = spell-rear roots N st free s ∙ rw (pad-room N free room) in
       rw (spell-frees roots N st free s, spell-stackAt roots N st free s, add-one (length free), e)
       (two-sets f (reverse free) gap (length free) (suc (length free)) 0 n at (length free) (front-length roots N st free s) (length-reverse free) ∙ sym (topped-rear n))

@@ -6,11 +6,12 @@ use Prim.Native.Nat.{ℕ, zero, suc, _+_, _-_, _*_, _≤_, _<_}
 use lib.ListN.{length, take, drop, getD, set}
 use lib.Dec.{eqb}
 pub use Rattle.forest.specs.Sizes.{base}
+pub use Rattle.forest.specs.Slices.{block}
 use Rattle.forest.specs.Sizes.{mostNodes, nodeSize}
 use Rattle.forest.specs.Lists.{pad}
 use Rattle.forest.specs.Pairs.{Item}
 use Rattle.forest.specs.Rows.{Row, node, nums}
-use Rattle.forest.specs.Pools.{innerWords}
+use Rattle.forest.specs.Pools.{innerWords, nodesFrom}
 
 -- a store: the words of each number
 abbrev pub Store : Type 0
@@ -48,22 +49,13 @@ HoldsUp st (S ∷ Ss) = Holds innerWords st S × HoldsUp st Ss
 
 -- The words
 
--- the words of c nodes from number n on
-abbrev pub blocks : Store → ℕ → ℕ → List ℕ
-blocks st n zero = []
-blocks st n (suc c) = st n ++ blocks st (suc n) c
-
 -- the words: roots, the store of N nodes, the free numbers with the top of the stack first
 unfoldable pub spell : List ℕ → ℕ → Store → List ℕ → List ℕ
-spell roots N st free = (length roots ∷ roots ++ (N ∷ [])) ++ (blocks st 1 N ++ (length free ∷ pad N (reverse free)))
+spell roots N st free = (length roots ∷ roots ++ (N ∷ [])) ++ (nodesFrom st 1 N ++ (length free ∷ pad N (reverse free)))
 
 -- xs with ys in the place of as many words from a on
 unfoldable pub patched : List ℕ → ℕ → List ℕ → List ℕ
 patched xs a ys = take a xs ++ (ys ++ drop (a + length ys) xs)
-
--- the words of node n
-unfoldable pub block : List ℕ → ℕ → ℕ → List ℕ
-block ws t n = take nodeSize (drop (base t n) ws)
 
 -- with other words for node n
 unfoldable pub withBlock : List ℕ → ℕ → ℕ → List ℕ → List ℕ
@@ -78,20 +70,20 @@ abbrev pub stackAt : List ℕ → ℕ → ℕ
 stackAt ws t = t + 2 + nodeSize * getD ws (t + 1) 0
 
 -- how many numbers are free
-abbrev pub frees : List ℕ → ℕ → ℕ
-frees ws t = getD ws (stackAt ws t) 0
+abbrev pub freeCount : List ℕ → ℕ → ℕ
+freeCount ws t = getD ws (stackAt ws t) 0
 
 -- the top of the stack
 abbrev pub topNode : List ℕ → ℕ → ℕ
-topNode ws t = getD ws (stackAt ws t + frees ws t) 0
+topNode ws t = getD ws (stackAt ws t + freeCount ws t) 0
 
 -- the words once it is taken
 unfoldable pub takenWords : List ℕ → ℕ → List ℕ
-takenWords ws t = set (set ws (stackAt ws t) (frees ws t - 1)) (stackAt ws t + frees ws t) 0
+takenWords ws t = set (set ws (stackAt ws t) (freeCount ws t - 1)) (stackAt ws t + freeCount ws t) 0
 
 -- the words with n on top of the stack
 unfoldable pub pushedWords : List ℕ → ℕ → ℕ → List ℕ
-pushedWords ws t n = set (set ws (stackAt ws t) (frees ws t + 1)) (stackAt ws t + (frees ws t + 1)) n
+pushedWords ws t n = set (set ws (stackAt ws t) (freeCount ws t + 1)) (stackAt ws t + (freeCount ws t + 1)) n
 
 -- and with the words of n made zeros too
 unfoldable pub freedWords : List ℕ → ℕ → ℕ → List ℕ
@@ -104,14 +96,14 @@ pub record Placed (ws : List ℕ) (t n : ℕ) : Type 0 where
 
 -- the stack is in the words, and not empty
 pub record Stocked (ws : List ℕ) (t : ℕ) : Type 0 where
-  pub some : 1 ≤ frees ws t
-  pub room : stackAt ws t + frees ws t < length ws
+  pub some : 1 ≤ freeCount ws t
+  pub room : stackAt ws t + freeCount ws t < length ws
 
 -- node n has its place, and the stack has room for one more
 pub record Freeable (ws : List ℕ) (t n : ℕ) : Type 0 where
   pub node : Placed ws t n
-  pub few : frees ws t < mostNodes
-  pub room : stackAt ws t + (frees ws t + 1) < length ws
+  pub few : freeCount ws t < mostNodes
+  pub room : stackAt ws t + (freeCount ws t + 1) < length ws
 
 -- the free stack of a fresh pool as it stands: n, n - 1, .., 1
 abbrev pub down : ℕ → List ℕ

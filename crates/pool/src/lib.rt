@@ -6,7 +6,7 @@ ghost use lib.ListN.{length, getD, set, replicate};
 ghost use lib.Dec.{eqb};
 ghost use Rattle.forest.specs.Answers.{answerOf};
 ghost use Rattle.forest.specs.Pools.{formatted, formatWords, formatAnswer, encode, fresh};
-ghost use Rattle.pool.specs.Stores.{block, withBlock, patched, stackAt, frees, topNode, takenWords, freedWords, down};
+ghost use Rattle.pool.specs.Stores.{block, withBlock, patched, stackAt, freeCount, topNode, takenWords, freedWords, down};
 ghost use Rattle.pool.specs.Stores.{Placed, Stocked, Freeable};
 use forest::MAX_NODES;
 use forest::MAX_TREES;
@@ -39,7 +39,7 @@ fn stack_at(ws: &[u32], t: usize) -> usize
 // The number of free nodes, F.
 pub fn free_count(ws: &[u32], t: usize) -> u32
     requires { ⌜ stackAt (now ws) t < length (now ws) ⌝ }
-    ensures { λ r. ⌜ r ≡ frees (now (ws .entry)) t ⌝ }
+    ensures { λ r. ⌜ r ≡ freeCount (now (ws .entry)) t ⌝ }
 {
     ws[stack_at(ws, t)]
 }

@@ -3,13 +3,14 @@ use mathlib.Core.Path.{_≡_, refl, sym, ap, _∙_}
 use mathlib.Core.List.{List, [], _∷_, _++_, append-assoc}
 use Prim.Native.Nat.{ℕ, zero, suc, _+_, _-_, _≤_, _<_}
 use native.Mathlib.Omega.{arith}
-use lib.ListN.{length, take, drop, getD, set, length-append, length-drop, length-map, drop-of-length-le, take-append-drop}
-use lib.Seq.{length-take-le, take-append-add, drop-append-add, take-append-le, take-append-seam, drop-append-seam, drop-cons, drop-drop, take-add, set-at, getD-at, getD-take, getD-drop}
+use lib.ListN.{length, take, drop, getD, set, length-append, length-drop, length-map, drop-of-length-le}
+use lib.Seq.{length-take-le, take-append-add, drop-append-add, take-append-le, take-append-seam, drop-append-seam, drop-cons, take-add, set-at, getD-at}
 use borrow.Rule.Slice.PartMut.{putMid, post-is}
 use Rattle.forest.specs.Lists.{removeAt, pad}
 use Rattle.forest.specs.Pairs.{Item}
 use Rattle.forest.specs.Pools.{leafWords}
 use Rattle.forest.specs.Slices.{shifted}
+use Rattle.forest.proofs.Slices.{first-block, around-block}
 use Rattle.forest.proofs.CountLaws.{length-pad, leaf-length}
 use Rattle.forest.proofs.ListLaws.{length-removeAt, map-removeAt}
 use Rattle.node.specs.Nodes.{leafPairs}
@@ -105,23 +106,13 @@ module _ (l r : List ℕ) (ys : List Item) (at : ℕ) (h : at < length ys) (few 
       q3 ∙ flat l (pad 7 (removeAt at (keysOf ys))) (pad 8 (removeAt at (linksOf ys))) r (31 + length ys) ∙
       rw (c, map-removeAt (λ (x : Item). x .0) at ys, map-removeAt (λ (x : Item). x .1) at ys)
 
--- the words around those of node n
-around : (ws : List ℕ) (t n : ℕ) → ws ≡ take (base t n) ws ++ (block ws t n ++ drop (base t n + 16) ws)
-unfolding block
-around ws t n =
-    sym (ap (take (base t n) ws ++_) (ap (take 16 (drop (base t n) ws) ++_) (sym (drop-drop 16 (base t n) ws)) ∙ take-append-drop 16 (drop (base t n) ws)) ∙ take-append-drop (base t n) ws)
-
-pub first-word : (ws : List ℕ) (t n : ℕ) → getD (block ws t n) 0 0 ≡ getD ws (base t n) 0
-unfolding block
-first-word ws t n = getD-take 16 (drop (base t n) ws) 0 0 (omega arith) ∙ getD-drop (base t n) ws 0 0 ∙ ap (λ (i : ℕ). getD ws i 0) (omega arith)
-
 -- take_out
 pub took : (ws v1 v2 v3 : List ℕ) (t n at : ℕ) → LeafPair ws t n at → v1 ≡ set ws (base t n) (getD ws (base t n) 0 - 1) →
     v2 ≡ closed v1 (base t n + 1 + at) (base t n + 8) → v3 ≡ closed v2 (base t n + 8 + at) (base t n + 16) → v3 ≡ lessWords ws t n at
 unfolding lessWords withBlock patched
 took ws v1 v2 v3 t n at a e1 e2 e3 =
-    let w : ws ≡ take (base t n) ws ++ (leafWords (leafPairs (block ws t n)) ++ drop (base t n + 16) ws) = around ws t n ∙ ap (λ (v : List ℕ). take (base t n) ws ++ (v ++ drop (base t n + 16) ws)) (sym (a .leaf .same)) in
-    let m : length (leafPairs (block ws t n)) ≡ getD ws (base t n) 0 - 32 = length-pairs (block ws t n) ∙ ap (λ (x : ℕ). x - 32) (first-word ws t n) in
+    let w : ws ≡ take (base t n) ws ++ (leafWords (leafPairs (block ws t n)) ++ drop (base t n + 16) ws) = around-block ws (base t n) ∙ ap (λ (v : List ℕ). take (base t n) ws ++ (v ++ drop (base t n + 16) ws)) (sym (a .leaf .same)) in
+    let m : length (leafPairs (block ws t n)) ≡ getD ws (base t n) 0 - 32 = length-pairs (block ws t n) ∙ ap (λ (x : ℕ). x - 32) (first-block ws (base t n)) in
     let b : base t n ≡ length (take (base t n) ws) = sym (length-take-le (base t n) ws (omega (arith, a .within .long))) in
     leaf-closed (take (base t n) ws) (drop (base t n + 16) ws) (leafPairs (block ws t n)) at (omega (arith, a .pair)) (omega (arith, a .within .most)) (base t n) v1 v2 v3 b
     (e1 ∙ ap (λ (v : List ℕ). set v (base t n) (getD v (base t n) 0 - 1)) w) e2 e3 ∙

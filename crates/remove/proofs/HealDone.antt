@@ -54,7 +54,7 @@ module _ (low : ℕ) (two : 2 ≤ low) (half : 2 * low ≤ 8) (L : Row) (Rs : Li
     (ts : List Tree) (t : ℕ) (tin : t < length ts) (s : State) (before : (x : ℕ) → s .st x ≡ nodeWords (set ts t (L ∷ Rs)) x)
     (each : (x : ℕ) → count x (numbers (L ∷ Rs)) + count x (used (set ts t [])) ≤ 1) (holds : HoldsTree (s .st) (L ∷ Rs))
     (i : ℕ) (b : i < sum (sizes L)) (more : 2 ≤ sum (sizes L))
-    (place : s .ps (length Rs) ≡ offset (sizes L) i) (path : HealPath.Path L (parent (sizes L) i) Rs (s .ns) (s .ps)) where
+    (place : s .ps (length Rs) ≡ offset (sizes L) i) (path : HealPath.Leads L (parent (sizes L) i) Rs (s .ns) (s .ps)) where
   abbrev key : List ℕ → ℕ
   key w = getD w 1 0
 

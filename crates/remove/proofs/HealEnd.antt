@@ -87,10 +87,10 @@ module _ {enc : List Item → List ℕ} {M : Row} {w : Bool} {i : ℕ} {L : Row}
   pub end-free : (freeAll (trimmed M above) s′) .free ≡ pushAll (trimmed M above) (s′ .free)
   end-free = freeAll-free (trimmed M above) s′
 
-  pub end-path : (j d : ℕ) → length new + d ≡ length (m .rows) → HealPath.Path M j (m .rows) (s′ .ns) (s′ .ps) → HealPath.Path M j new (λ l. s′ .ns (l + d)) (λ l. s′ .ps (l + d))
+  pub end-path : (j d : ℕ) → length new + d ≡ length (m .rows) → HealPath.Leads M j (m .rows) (s′ .ns) (s′ .ps) → HealPath.Leads M j new (λ l. s′ .ns (l + d)) (λ l. s′ .ps (l + d))
   end-path j d e p =
       let q : refresh M (trim M (m .rows)) ≡ new = HealStack.refresh-shape M (trim-shape 0 M M refl (m .shape)) in
       let sh : HealStack.SameShape (refresh M (trim M (m .rows))) (trim M (m .rows)) = refresh-same M (trim M (m .rows)) (trim-stacked M (m .rows) some-left (m .stacked)) in
       let e′ : length (trim M (m .rows)) + d ≡ length (m .rows) = rw (← (HealNext.shape-length sh), q) e in
-      subst (λ (Ts : List Row). HealPath.Path M j Ts (λ l. s′ .ns (l + d)) (λ l. s′ .ps (l + d))) q
+      subst (λ (Ts : List Row). HealPath.Leads M j Ts (λ l. s′ .ns (l + d)) (λ l. s′ .ps (l + d))) q
       (HealNext.path-shape M M j (λ l. s′ .ns (l + d)) (λ l. s′ .ps (l + d)) refl (HealStack.same-sym sh) (path-trim M j (m .rows) (s′ .ns) (s′ .ps) d e′ p))

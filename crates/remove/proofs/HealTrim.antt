@@ -148,8 +148,8 @@ trimmed-holds R Ss s o hu =
     (λ x. omega (arith, trim-weight (λ y. once (eqb x y)) R Ss, o x)) (trim-holds R Ss (s .st) hu)
 
 -- the path, d levels up
-pub path-trim : (R : Row) (j : ℕ) (Ss : List Row) (ns ps : ℕ → ℕ) (d : ℕ) → length (trim R Ss) + d ≡ length Ss → HealPath.Path R j Ss ns ps →
-    HealPath.Path R j (trim R Ss) (λ l. ns (l + d)) (λ l. ps (l + d))
+pub path-trim : (R : Row) (j : ℕ) (Ss : List Row) (ns ps : ℕ → ℕ) (d : ℕ) → length (trim R Ss) + d ≡ length Ss → HealPath.Leads R j Ss ns ps →
+    HealPath.Leads R j (trim R Ss) (λ l. ns (l + d)) (λ l. ps (l + d))
 path-trim R j [] ns ps d e p = let z : 0 + d ≡ 0 = e in rw z p
 path-trim R j (S ∷ Ss) ns ps d e p = elim (test (ltb (length R) 2)) [
   | is t ↦

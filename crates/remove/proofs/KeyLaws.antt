@@ -11,6 +11,7 @@ use Rattle.forest.specs.Rows.{itemsAt}
 use Rattle.forest.specs.Pools.{Pool, WellFormed, encode, leafWords}
 use Rattle.forest.specs.Cursors.{cursorAt, seek, move, to-remove}
 use Rattle.forest.specs.declared.Cursor.{Cursor}
+use Rattle.forest.proofs.Slices.{first-block}
 use Rattle.forest.proofs.ListLaws.{is, isnt, test}
 use Rattle.node.specs.Nodes.{Leaf}
 use Rattle.node.proofs.Words.{leaf-is}
@@ -22,7 +23,6 @@ use Rattle.remove.specs.Ends.{AskRemove, Removes}
 use Rattle.remove.specs.Keys.{LeafPair, lessWords, onlyLeaf, AskKey, RemovesKey}
 use Rattle.remove.proofs.StartLaws.{Begun, begun, size-is, place0}
 use Rattle.remove.proofs.LastLaws.{n-is}
-use Rattle.remove.proofs.GapLaws.{first-word}
 use Rattle.remove.proofs.OnlyLaws
 
 -- the test of only_leaf: r is the root
@@ -92,7 +92,7 @@ module _ {ws : List ℕ} {t tree k n e : ℕ} (a : AskKey ws t tree k n e) where
     block-is = ap (block ws t) node-is ∙ OnlyLaws.leaf-block p c f b s tr
 
     word-is : getD ws (base t n) 0 ≡ 32 + length (itemsAt (b .L) (b .j))
-    word-is = sym (first-word ws t n) ∙ ap (λ (w : List ℕ). getD w 0 0) block-is
+    word-is = sym (first-block ws (base t n)) ∙ ap (λ (w : List ℕ). getD w 0 0) block-is
 
     e-less : e < length (itemsAt (b .L) (b .j))
     e-less = omega (arith, place-is, OnlyLaws.e-less p c f b)

@@ -11,7 +11,7 @@ use Rattle.forest.specs.Lists.{parent, offset}
 use Rattle.forest.specs.Rows.{Row, nums, sizes}
 use Rattle.forest.specs.Cursors.{pathUp}
 use Rattle.forest.proofs.ListLaws.{is, isnt, test}
-use Rattle.crit.specs.Paths.{Path}
+use Rattle.crit.specs.Paths.{Leads}
 
 abbrev Levels : Type 0
 Levels = List (ℕ × ℕ)
@@ -31,7 +31,7 @@ up-below j (S ∷ Ss) below i =
 
 -- a path list is a path
 pub up-path : (R : Row) (j e : ℕ) (Ss : List Row) (below : Levels) →
-    Path R j Ss (λ l. getD (map nodeOf (pathUp j Ss ((getD (nums R) j 0, e) ∷ below))) l 0) (λ l. getD (map placeOf (pathUp j Ss ((getD (nums R) j 0, e) ∷ below))) l 0)
+    Leads R j Ss (λ l. getD (map nodeOf (pathUp j Ss ((getD (nums R) j 0, e) ∷ below))) l 0) (λ l. getD (map placeOf (pathUp j Ss ((getD (nums R) j 0, e) ∷ below))) l 0)
 up-path R j e [] below = refl
 up-path R j e (S ∷ Ss) below =
     let P = pathUp (parent (sizes S) j) Ss ((getD (nums S) (parent (sizes S) j) 0, offset (sizes S) j) ∷ (getD (nums R) j 0, e) ∷ below) in
@@ -51,7 +51,7 @@ up-place R j e Ss =
     List·getD-map placeOf (pathUp j Ss ((getD (nums R) j 0, e) ∷ [])) (length Ss) (0, 0) ∙ ap (λ (k : ℕ). placeOf (getD (pathUp j Ss ((getD (nums R) j 0, e) ∷ [])) k (0, 0))) z0 ∙ ap placeOf (up-below j Ss ((getD (nums R) j 0, e) ∷ []) 0)
 
 -- paths to one node agree
-pub same-path : (R : Row) (j : ℕ) (Ss : List Row) (ns ps ns′ ps′ : ℕ → ℕ) → Path R j Ss ns ps → Path R j Ss ns′ ps′ → (l : ℕ) → (l ≤ length Ss → ns l ≡ ns′ l) × (l < length Ss → ps l ≡ ps′ l)
+pub same-path : (R : Row) (j : ℕ) (Ss : List Row) (ns ps ns′ ps′ : ℕ → ℕ) → Leads R j Ss ns ps → Leads R j Ss ns′ ps′ → (l : ℕ) → (l ≤ length Ss → ns l ≡ ns′ l) × (l < length Ss → ps l ≡ ps′ l)
 same-path R j [] ns ps ns′ ps′ p q l = ((λ h. let z : l ≡ 0 = omega arith in rw z (p ∙ sym q)), (λ h. absurd (omega arith)))
 same-path R j (S ∷ Ss) ns ps ns′ ps′ p q l =
     let ih = same-path S (parent (sizes S) j) Ss ns ps ns′ ps′ (p .2) (q .2) l in (

@@ -26,7 +26,7 @@ use Rattle.pool.specs.Stores.{spell}
 use Rattle.pool.proofs.Spell.{encode-spell, spell-ext}
 use Rattle.pool.proofs.Bridges.{spell-root, spell-set-root}
 use Rattle.crit.specs.States.{State}
-use Rattle.crit.specs.Paths.{numAt, Stacked, Path}
+use Rattle.crit.specs.Paths.{numAt, Stacked, Leads}
 use Rattle.crit.specs.Asks.{moved, Spelt}
 use Rattle.heal.specs.Steps.{taken}
 use Rattle.remove.specs.Ends.{shrink, shrinks, Shrunk, AskShrink, Shrinks, shifted}
@@ -152,7 +152,7 @@ module _ (p : Pool) (c : Cursor) (formed : WellFormed 3 p) (b : Begun p c) where
     place1 : (s0 p c formed b) .ps (length (b .Rs)) ≡ offset (sizes (b .L)) (i p c formed b)
     place1 = place0 p c formed b ∙ sym ((spot p c formed b) .1)
 
-    path1 : Path (b .L) (parent (sizes (b .L)) (i p c formed b)) (b .Rs) ((s0 p c formed b) .ns) ((s0 p c formed b) .ps)
+    path1 : Leads (b .L) (parent (sizes (b .L)) (i p c formed b)) (b .Rs) ((s0 p c formed b) .ns) ((s0 p c formed b) .ps)
     path1 = rw ((spot p c formed b) .0) (path0 p c formed b)
 
     abbrev pub s′ : State
@@ -255,7 +255,7 @@ module _ (p : Pool) (c : Cursor) (formed : WellFormed 3 p) (b : Begun p c) where
       pub end-cursor : (move to-remove c p) .cursor ≡ r
       end-cursor = cursor-is (M ∷ new) gone-list tree-new freed-new ∙ by (mend .stands) ∙ sym er
         where
-          by : Where (sum (sizes M)) (i p c formed b) ((s′ .ps (length (b .Rs)) ≡ offset (sizes M) (i p c formed b)) × Path M (parent (sizes M) (i p c formed b)) (mend .rows) (s′ .ns) (s′ .ps)) true (s′ .live) →
+          by : Where (sum (sizes M)) (i p c formed b) ((s′ .ps (length (b .Rs)) ≡ offset (sizes M) (i p c formed b)) × Leads M (parent (sizes M) (i p c formed b)) (mend .rows) (s′ .ns) (s′ .ps)) true (s′ .live) →
               cursorAt (c .tree) (pathOf (M ∷ new) (spotAt M (i p c formed b))) ≡ shifted d (top .gone)
           by (past h lv) =
               let z : d .size ≡ 0 = sp2 .size ∙ rw ((freeAll-path (trimmed M above) s′) .2 ∙ lv) refl in

@@ -13,7 +13,7 @@ use Rattle.forest.specs.Pools.{Pool, WellFormed, encode, treeOf}
 use Rattle.forest.specs.declared.Cursor.{Cursor}
 use Rattle.crit.specs.Asks.{moved, Spelt, Leaves}
 use Rattle.heal.specs.Steps.{taken}
-use Rattle.heal.specs.Cycle.{Stood}
+use Rattle.heal.specs.Cycle.{AskPair}
 use Rattle.remove.specs.Ends.{AskShrink, Shrinks, shifted, AskRemove, AskLast, Lone, Removes}
 use Rattle.remove.specs.declared.Top.{Top}
 use Rattle.remove.proofs.StartLaws.{Begun, begun, levels, size-is, m0, s0, spelt0, stood, pairs-are, spot}
@@ -52,8 +52,8 @@ module _ {ws : List ℕ} {t : ℕ} {c : Cursor} (a : AskRemove ws t c) where
     level-is : (p : Pool) (f : WellFormed 3 p) (e : encode p ≡ ws) → length ((at p f e) .Rs) ≡ c .size - 1
     level-is p f e = omega (arith, size-is p c f (at p f e))
 
-    pub stands-there : Stood ws t c (c .size - 1)
-    stands-there = subst (Stood ws t c) (level-is p0 f0 (a .sound .same)) (stood p0 c f0 b0 (a .sound .same) (a .trees p0 f0 (a .sound .same)) (eqb-false _ 1 (sym (l .run p0 f0 (a .sound .same)))))
+    pub stands-there : AskPair ws t c (c .size - 1)
+    stands-there = subst (AskPair ws t c) (level-is p0 f0 (a .sound .same)) (stood p0 c f0 b0 (a .sound .same) (a .trees p0 f0 (a .sound .same)) (eqb-false _ 1 (sym (l .run p0 f0 (a .sound .same)))))
 
     module _ {vs : List ℕ} {d : Cursor} (g : Leaves (taken (c .size - 1)) ws vs t c d) where
       after : (p : Pool) (f : WellFormed 3 p) (e : encode p ≡ ws) → Spelt vs t d (moved (m0 p c f (at p f e)) (taken (length ((at p f e) .Rs)) (s0 p c f (at p f e))))

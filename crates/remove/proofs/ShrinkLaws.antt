@@ -19,7 +19,7 @@ use Rattle.crit.specs.States.{State}
 use Rattle.crit.specs.Paths.{numAt, Stacked, HoldsUp}
 use Rattle.crit.specs.Asks.{Mem, moved, Spelt}
 use Rattle.heal.specs.Steps.{freeNode}
-use Rattle.remove.specs.Ends.{shrink, shrinks, Shrunk, AskShrink, Shrinks, Stage, Going}
+use Rattle.remove.specs.Ends.{shrink, shrinks, Shrunk, AskShrink, Shrinks}
 use Rattle.remove.specs.declared.Top.{Top}
 use Rattle.crit.proofs.HealRows
 use Rattle.crit.proofs.HealStack
@@ -151,7 +151,21 @@ module _ {ws : List ℕ} {t root levels : ℕ} (a : AskShrink ws t root levels) 
         top = ap (λ (x : List ℕ). getD x 8 0) q ∙ peak .child one;
       }
 
--- the loop
+-- The loop
+
+-- on the way: n is the root once `gone` of those with one child went
+pub record Stage (ws vs : List ℕ) (t root levels n gone : ℕ) (c : Cursor) (m : Mem) : Type 0 where
+  pub s : State
+  pub spelt : Spelt vs t c (moved m s)
+  pub same : shrink levels (m .s) root ≡ shrink (levels - gone) s n
+  pub times : shrinks levels (m .s) root ≡ gone + shrinks (levels - gone) s n
+
+-- and what shrink_root may still ask there
+pub record Going (ws vs : List ℕ) (t root levels n gone : ℕ) : Type 0 where
+  pub few : gone ≤ levels
+  pub ask : AskShrink vs t n (levels - gone)
+  pub stage : (c : Cursor) (m : Mem) → Spelt ws t c m → Stage ws vs t root levels n gone c m
+
 pub going-start : {ws : List ℕ} {t root levels : ℕ} → AskShrink ws t root levels → Going ws ws t root levels root 0
 going-start {ws} {t} {root} {levels} a =
     let z : levels ≡ levels - 0 = omega arith in

@@ -22,10 +22,10 @@ use Rattle.forest.proofs.WordLaws.{count-tree, used-once}
 use Rattle.forest.proofs.Six.{six-levels}
 use Rattle.pool.proofs.Spell.{encode-spell}
 use Rattle.crit.specs.States.{State}
-use Rattle.crit.specs.Paths.{Holds, HoldsUp, Path}
+use Rattle.crit.specs.Paths.{Holds, HoldsUp, Leads}
 use Rattle.crit.specs.Asks.{Mem, Spelt}
 use Rattle.heal.specs.Wounds.{Within}
-use Rattle.heal.specs.Cycle.{Stood}
+use Rattle.heal.specs.Cycle.{AskPair}
 use Rattle.remove.specs.Ends.{OnPair}
 use Rattle.crit.proofs.HealNext.{path-deeper}
 use Rattle.remove.proofs.HealDone.{tower-stacked}
@@ -103,7 +103,7 @@ module _ (p : Pool) (c : Cursor) (formed : WellFormed 3 p) (b : Begun p c) where
     size = refl;
   }
 
-  pub path0 : Path (b .L) (b .j) (b .Rs) (s0 .ns) (s0 .ps)
+  pub path0 : Leads (b .L) (b .j) (b .Rs) (s0 .ns) (s0 .ps)
   path0 = path-deeper (b .L) (b .j) (b .Rs) (λ l. getD (map (λ (q : ℕ × ℕ). q .0) P) l 0) (λ l. getD (map (λ (q : ℕ × ℕ). q .1) P) l 0) (s0 .ns) (s0 .ps)
       (λ l h. ap (λ (xs : List ℕ). getD xs l 0) nodes-are ∙ getD-pad 16 (map (λ (q : ℕ × ℕ). q .0) P) l (omega (arith, levels)))
       (λ l h. ap (λ (xs : List ℕ). getD xs l 0) places-are ∙ getD-pad 16 (map (λ (q : ℕ × ℕ). q .1) P) l (omega (arith, levels)))
@@ -133,7 +133,7 @@ module _ (p : Pool) (c : Cursor) (formed : WellFormed 3 p) (b : Begun p c) where
   pub pairs-are : length (pairs (treeOf p (c .tree))) ≡ sum (sizes (b .L))
   pairs-are = ap (λ (T : Tree). length (pairs T)) (b .is) ∙ sym (sum-sizes (b .L))
 
-  pub stood : {ws : List ℕ} {t : ℕ} → encode p ≡ ws → t ≡ length (p .trees) → (length (pairs (treeOf p (c .tree))) ≡ 1 → ⊥) → Stood ws t c (length (b .Rs))
+  pub stood : {ws : List ℕ} {t : ℕ} → encode p ≡ ws → t ≡ length (p .trees) → (length (pairs (treeOf p (c .tree))) ≡ 1 → ⊥) → AskPair ws t c (length (b .Rs))
   stood same tr more = record {
     deep = omega (arith, levels);
     mem = m0;

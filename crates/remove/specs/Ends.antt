@@ -56,19 +56,6 @@ pub record Shrinks (ws vs : List ℕ) (t root levels : ℕ) (r : Top) : Type 0 w
   pub root-is : (c : Cursor) (m : Mem) → Spelt ws t c m → r .root ≡ (shrink levels (m .s) root) .root
   pub gone-is : (c : Cursor) (m : Mem) → Spelt ws t c m → r .gone ≡ shrinks levels (m .s) root
 
--- on the way there: n is the root once `gone` of them went
-pub record Stage (ws vs : List ℕ) (t root levels n gone : ℕ) (c : Cursor) (m : Mem) : Type 0 where
-  pub s : State
-  pub spelt : Spelt vs t c (moved m s)
-  pub same : shrink levels (m .s) root ≡ shrink (levels - gone) s n
-  pub times : shrinks levels (m .s) root ≡ gone + shrinks (levels - gone) s n
-
--- and what shrink_root may still ask there
-pub record Going (ws vs : List ℕ) (t root levels n gone : ℕ) : Type 0 where
-  pub few : gone ≤ levels
-  pub ask : AskShrink vs t n (levels - gone)
-  pub stage : (c : Cursor) (m : Mem) → Spelt ws t c m → Stage ws vs t root levels n gone c m
-
 -- a path without its first levels, the unused ones 0
 abbrev pub shifted : Cursor → ℕ → Cursor
 shifted c k = record {

@@ -58,12 +58,12 @@ word-read n b i h =
     rw (getD-take n b i 0 (omega arith), getD-take n b (i + 1) 0 (omega arith), getD-take n b (i + 2) 0 (omega arith), getD-take n b (i + 3) 0 (omega arith))
 
 -- what is left after n words or all that there are
-pub record Goes (s : Stage) (b : List ℕ) (p : Pool) (vs : List ℕ) (r : Turn) : Type 0 where
+pub record TurnsTo (s : Stage) (b : List ℕ) (p : Pool) (vs : List ℕ) (r : Turn) : Type 0 where
   pool : Pool
   shows : Shows (r .stage) vs pool
   answers : rest s b p ≡ spoken (r .said) ++ rest (r .stage) (drop (wantsOf s) b) pool
 
-goes-by : {s : Stage} {b : List ℕ} {p : Pool} {vs : List ℕ} {r t : Turn} → r ≡ t → Goes s b p vs t → Goes s b p vs r
+goes-by : {s : Stage} {b : List ℕ} {p : Pool} {vs : List ℕ} {r t : Turn} → r ≡ t → TurnsTo s b p vs t → TurnsTo s b p vs r
 goes-by e g = rw e g
 
 -- the input ends early
@@ -75,11 +75,11 @@ early (Count words) b p h = rw (lt-ltb (length b) 4 h)
 early (Request words more) b p h = rw (lt-ltb (length b) 16 h)
 early Stopped b p h = absurd (omega arith)
 
-stops-early : (s : Stage) (b : List ℕ) (p : Pool) (vs : List ℕ) → length b < wantsOf s → Goes s b p vs (stops 7)
+stops-early : (s : Stage) (b : List ℕ) (p : Pool) (vs : List ℕ) → length b < wantsOf s → TurnsTo s b p vs (stops 7)
 stops-early s b p vs h = record { pool = p; shows = tt; answers = early s b p h }
 
 -- the first word
-kind-goes : (b : List ℕ) (p : Pool) (ws : List ℕ) → room ≤ length ws → 4 ≤ length b → Goes Kind b p ws (afterKind (take 4 b))
+kind-goes : (b : List ℕ) (p : Pool) (ws : List ℕ) → room ≤ length ws → 4 ≤ length b → TurnsTo Kind b p ws (afterKind (take 4 b))
 unfolding afterKind replayed
 kind-goes b p ws l h = elim (test (eqb (wordAt b 0) 2)) [
   | is e ↦ simp (word-read 4 b 0 (omega arith), e) (record { pool = p; shows = l; answers = rw (le-ltb (length b) 4 h, e) })
@@ -106,7 +106,7 @@ module _ (b : List ℕ) (p : Pool) (ws vs : List ℕ) (T N : ℕ) (l : room ≤ 
   taken : formatted T N (length (take (sized T N) ws)) ≡ formatted T N (sized T N)
   taken = rw length-take (format-room T N (length ws) l)
 
-  sizes-done : formatted T N (sized T N) ≡ 0 → Goes Sizes b p vs (goes (Count (sized T N)))
+  sizes-done : formatted T N (sized T N) ≡ 0 → TurnsTo Sizes b p vs (goes (Count (sized T N)))
   unfolding pooled formatWords
   sizes-done e =
       let fits = format-in T N (sized T N) e in
@@ -117,7 +117,7 @@ module _ (b : List ℕ) (p : Pool) (ws vs : List ℕ) (T N : ℕ) (l : room ≤ 
         answers = rw (le-ltb (length b) 8 h, ← t, ← n, o);
       }
 
-  sizes-refused : (formatted T N (sized T N) ≡ 0 → ⊥) → Goes Sizes b p vs (stops 5)
+  sizes-refused : (formatted T N (sized T N) ≡ 0 → ⊥) → TurnsTo Sizes b p vs (stops 5)
   unfolding pooled
   sizes-refused e = record {
     pool = p;
@@ -125,7 +125,7 @@ module _ (b : List ℕ) (p : Pool) (ws vs : List ℕ) (T N : ℕ) (l : room ≤ 
     answers = rw (le-ltb (length b) 8 h, ← t, ← n, ne-eqb (formatted T N (sized T N)) 0 e);
   }
 
-  sizes-goes : Goes Sizes b p vs (afterFormat (sized T N) (formatAnswer T N (take (sized T N) ws)))
+  sizes-goes : TurnsTo Sizes b p vs (afterFormat (sized T N) (formatAnswer T N (take (sized T N) ws)))
   unfolding afterFormat formatAnswer
   sizes-goes = rw taken (elim (test (eqb (formatted T N (sized T N)) 0)) [
     | is e ↦ simp e (sizes-done (eqb-true _ 0 e))
@@ -143,7 +143,7 @@ shows-asking : (words n : ℕ) (vs : List ℕ) (p : Pool) → Shown words vs p �
 shows-asking words zero vs p s = tt
 shows-asking words (suc n) vs p s = s
 
-count-goes : (words : ℕ) (b : List ℕ) (p : Pool) (ws : List ℕ) → Shown words ws p → 4 ≤ length b → Goes (Count words) b p ws (afterCount words (take 4 b))
+count-goes : (words : ℕ) (b : List ℕ) (p : Pool) (ws : List ℕ) → Shown words ws p → 4 ≤ length b → TurnsTo (Count words) b p ws (afterCount words (take 4 b))
 unfolding afterCount counted
 count-goes words b p ws s h = elim (test (leb (wordAt b 0) 4096)) [
   | is e ↦ simp (word-read 4 b 0 (omega arith), e) (record {
@@ -170,7 +170,7 @@ request-read : (b : List ℕ) → request (take 16 b) ≡ request b
 request-read b = rw (word-read 16 b 0 (omega arith), word-read 16 b 4 (omega arith), word-read 16 b 8 (omega arith), word-read 16 b 12 (omega arith))
 
 request-goes : (words more : ℕ) (b : List ℕ) (p : Pool) (ws vs : List ℕ) (a : Answer) → Shown words ws p → 16 ≤ length b →
-    Heeds (request (take 16 b)) (take words ws) (take words vs) a → Goes (Request words more) b p vs (record { stage = asking words more; said = Line a })
+    Heeds (request (take 16 b)) (take words ws) (take words vs) a → TurnsTo (Request words more) b p vs (record { stage = asking words more; said = Line a })
 request-goes words more b p ws vs a s h k =
     let d = heeded (request b) words ws vs p a s (rw request-read at k) in
     record {
@@ -180,7 +180,7 @@ request-goes words more b p ws vs a s h k =
     }
 
 -- a turn that is whole
-judged-goes : (s : Stage) (b : List ℕ) (p : Pool) (ws vs : List ℕ) (r : Turn) → Shows s ws p → wantsOf s ≤ length b → Judged s (take (wantsOf s) b) ws vs r → Goes s b p vs r
+judged-goes : (s : Stage) (b : List ℕ) (p : Pool) (ws vs : List ℕ) (r : Turn) → Shows s ws p → wantsOf s ≤ length b → Judged s (take (wantsOf s) b) ws vs r → TurnsTo s b p vs r
 judged-goes Kind b p ws vs r s h j = goes-by (j .0) (rw (j .1) (kind-goes b p ws s h))
 judged-goes Sizes b p ws vs r s h j =
     let t = word-read 8 b 0 (omega arith) in
@@ -190,7 +190,7 @@ judged-goes (Count words) b p ws vs r s h j = goes-by (j .0) (rw (j .1) (count-g
 judged-goes (Request words more) b p ws vs r s h j = goes-by (j .turn) (request-goes words more b p ws vs _ s h (j .heeds))
 judged-goes Stopped b p ws vs r s h j = goes-by (j .0) (record { pool = p; shows = tt; answers = refl })
 
-turn-goes : (s : Stage) (b : List ℕ) (p : Pool) (ws vs : List ℕ) (r : Turn) → Shows s ws p → Turned s (take (wantsOf s) b) ws vs r → Goes s b p vs r
+turn-goes : (s : Stage) (b : List ℕ) (p : Pool) (ws vs : List ℕ) (r : Turn) → Shows s ws p → Turned s (take (wantsOf s) b) ws vs r → TurnsTo s b p vs r
 turn-goes s b p ws vs r g t =
     let k : length (take (wantsOf s) b) ≡ min (wantsOf s) (length b) = length-take (wantsOf s) b in
     elim (test (ltb (length b) (wantsOf s))) [

@@ -7,13 +7,13 @@ use Rattle.forest.specs.Lists.{once}
 use Rattle.forest.specs.declared.Answer.{Answer}
 
 -- the decimal digits of n, with no zero in front, before a text; at most `most` of them
-abbrev pub spell : ℕ → ℕ → List ℕ → List ℕ
-spell zero n text = text
-spell (suc most) n text = cond (ltb n 10) ((48 + n) ∷ text) (spell most (n / 10) ((48 + n % 10) ∷ text))
+abbrev pub digitsOf : ℕ → ℕ → List ℕ → List ℕ
+digitsOf zero n text = text
+digitsOf (suc most) n text = cond (ltb n 10) ((48 + n) ∷ text) (digitsOf most (n / 10) ((48 + n % 10) ∷ text))
 
 -- a word as text: ten digits hold it
 unfoldable pub decimal : ℕ → List ℕ
-decimal n = spell 10 n []
+decimal n = digitsOf 10 n []
 
 -- the line of an answer: number, found as 0 or 1, value, with a space (32) between, and a line end (10)
 unfoldable pub line : Answer → List ℕ

@@ -6,7 +6,7 @@ ghost use lib.ListN.{length, take, drop};
 ghost use Rattle.forest.specs.Lists.{once};
 ghost use Rattle.forest.specs.Answers.{answerOf};
 ghost use Rattle.forest.specs.Answers.{refusal as refusal-of};
-ghost use Rattle.requests.specs.Text.{spell, line, lines};
+ghost use Rattle.requests.specs.Text.{digitsOf, line, lines};
 ghost use Rattle.requests.specs.Replay.{wordAt, asked};
 ghost use Rattle.requests.specs.Turns.{wantsOf, spoken, goes, stops, asking, afterKind, afterFormat, afterCount};
 ghost use Rattle.requests.specs.Turns.{Heeds, Sized, Requested, Turned, rank};
@@ -239,7 +239,7 @@ pub fn step(space: &mut [u32], stage: Stage, b: &[u8]) -> Turn
 // The decimal digits of n, at most `most` of them, before place `at`: where they start. What stands before them stays.
 fn digits(out: &mut [u8], at: usize, most: usize, n: u32) -> usize
     requires { ⌜ (1 ≤ most) × (most ≤ at) × (at ≤ length (now out)) × (n < 10 ^ most) ⌝ }
-    ensures text { λ r. ⌜ now (out .exit) ≡ take r (now (out .entry)) ++ spell most n (drop at (now (out .entry))) ⌝ }
+    ensures text { λ r. ⌜ now (out .exit) ≡ take r (now (out .entry)) ++ digitsOf most n (drop at (now (out .entry))) ⌝ }
     ensures start { λ r. ⌜ (r ≤ at) × (at ≤ r + most) ⌝ }
 {
     if n < 10 {

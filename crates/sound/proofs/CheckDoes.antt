@@ -7,7 +7,7 @@ use native.Mathlib.Omega.{arith}
 use lib.ListN.{length, getD, length-append, length-map, length-reverse}
 use lib.Dec.{leb, eqb}
 use borrow.Author.Tests.{eq-eqb, ne-eqb, le-leb, lt-leb, leb-true, leb-false}
-use Rattle.forest.proofs.CountLaws.{small, in-range, few-numbers, encode-length, nodes-length}
+use Rattle.forest.proofs.CountLaws.{small, in-range, few-numbers, encode-length, node-length, nodes-length}
 use Rattle.forest.proofs.WordLaws.{trees-miss, count-append}
 use Rattle.forest.specs.Lists.{once, total, count, pad}
 use Rattle.forest.specs.Pairs.{Item, Rising}
@@ -16,14 +16,14 @@ use Rattle.forest.specs.Trees.{pairs, numbers}
 use Rattle.forest.specs.Pools.{Pool, WellFormed, AllGood, used, root, leafWords, innerWords, nodeWords, nodesFrom, encode, Sound}
 use Rattle.forest.proofs.ListLaws.{is, isnt, test, total-append}
 use Rattle.walk.specs.declared.Walked.{Walked}
-use Rattle.walk.specs.Marks.{mark, markAll}
-use Rattle.walk.proofs.MarkLaws.{marks-count, fresh-once, clean, has-clean}
+use Rattle.walk.specs.Marks.{mark}
+use Rattle.walk.proofs.MarkLaws.{markAll, marks-count, fresh-once, clean, has-clean}
 use Rattle.walk.proofs.Subtree.{Sub, crown, flat, rowsOf, pairsOf, numsOf, Flagged, Each, Filled, Held, HeldTree, Fresh}
 use Rattle.walk.proofs.Towers.{tops, each-left, each-right, Wide, tree-one, rows-held, root-rows, numbers-rows, pairs-rows}
-use Rattle.walk.specs.Walks.{lastly, span, zeros, place, walk}
-use Rattle.walk.proofs.WalkLaws.{lower-some, span-pad, pad-zeros, inner-does}
+use Rattle.walk.specs.Walks.{lastly, zeros, place, walk}
+use Rattle.walk.proofs.WalkLaws.{span, lower-some, span-pad, pad-zeros, inner-does}
 use Rattle.walk.proofs.WalkExact.{store, Ranged, walk-does, meets-does, lowOf, fresh-left, fresh-right, marks-append}
-use Rattle.sound.specs.Checks.{levels, wide, fine, treeWalk, trees, frees, allMarked, framed, stacked, filled, checked}
+use Rattle.sound.specs.Checks.{levels, wide, fine, treeWalk, trees, freeWalk, allMarked, framed, stacked, filled, checked}
 use Rattle.sound.proofs.CheckLaws.{rising-climbs, Parts, parts, trees-held, nodes-part, total-reverse}
 use Rattle.sound.proofs.CheckYes.{all-small, marked-does}
 use Rattle.forest.proofs.RowLaws.{length-line}
@@ -211,7 +211,7 @@ module _ (ws : List ℕ) (T N m : ℕ) where
       }
 
   -- the free numbers
-  pub frees-do : (us : List ℕ) (r i : ℕ) (ms : List ℕ) → Each InN us → Fresh ms us → Each (λ n. st n ≡ pad 16 []) us → span ws i r ≡ us → frees ws T N r i ms ≡ fine (markAll ms us)
+  pub frees-do : (us : List ℕ) (r i : ℕ) (ms : List ℕ) → Each InN us → Fresh ms us → Each (λ n. st n ≡ pad 16 []) us → span ws i r ≡ us → freeWalk ws T N r i ms ≡ fine (markAll ms us)
   frees-do [] zero i ms n f z e = refl
   frees-do [] (suc r) i ms n f z e = absurd (omega (arith, ap length e))
   frees-do (u ∷ us) zero i ms n f z e = absurd (omega (arith, ap length e))
@@ -224,7 +224,7 @@ module _ (ws : List ℕ) (T N m : ℕ) where
   module _ (ts : List Tree) (free : List ℕ) (good : AllGood m ts) (some-trees : 1 ≤ length ts) (few-trees : length ts ≤ 32) (few : N ≤ 512)
       (each-once : (n : ℕ) → count n (used ts) + count n free ≡ once (leb 1 n && leb n N))
       (t-len : length ts ≡ T) (long : length ws ≡ T + 17 * N + 3)
-      (p : Parts ws T N long T (map root ts) N (nodesFrom ts 1 N) (length free) (pad N (reverse free))) where
+      (p : Parts ws T N long T (map root ts) N (nodesFrom (nodeWords ts) 1 N) (length free) (pad N (reverse free))) where
     abbrev S : ℕ
     S = T + 3 + 16 * N
 
@@ -299,7 +299,7 @@ module _ (ws : List ℕ) (T N m : ℕ) where
     filled-is =
         let x : trees ws T N m T 1 clean ≡ fine (markAll clean us) =
         the-trees .does T 1 clean (omega (arith, number, length-append us vs)) (each-left InN us vs ranged) (fresh-left clean us vs fresh) (p .roots-same) in
-        let y : frees ws T N (length free) S (markAll clean us) ≡ fine (markAll (markAll clean us) vs) =
+        let y : freeWalk ws T N (length free) S (markAll clean us) ≡ fine (markAll (markAll clean us) vs) =
         frees-do vs (length free) S (markAll clean us) (each-right InN us vs ranged) (fresh-right clean us vs fresh)
         (blank vs (λ k. omega (arith, total-reverse (λ z. once (eqb k z)) free)) (each-right InN us vs ranged)) (stack-is .0) in
         rw (x, p .f-same, y, stack-is .1, ← (marks-append clean us vs)) full
@@ -321,7 +321,7 @@ encode-checked ws m p w e =
     let T = length (p .trees) in
     let N = p .count in
     let l : length ws ≡ length (p .trees) + 17 * p .count + 3 = ap length (sym e) ∙ encode-length p in
-    let q = parts ws T N l T (map root (p .trees)) N (nodesFrom (p .trees) 1 N) (length (p .free)) (pad N (reverse (p .free))) (length-map (p .trees) root) (nodes-length (p .trees) 1 N) e in
+    let q = parts ws T N l T (map root (p .trees)) N (nodesFrom (nodeWords (p .trees)) 1 N) (length (p .free)) (pad N (reverse (p .free))) (length-map (p .trees) root) (nodes-length (nodeWords (p .trees)) 1 N (node-length (p .trees))) e in
     rw (
       q .t-same,
       q .n-same,

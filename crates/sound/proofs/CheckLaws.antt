@@ -15,8 +15,8 @@ use Rattle.forest.specs.Trees.{numbers}
 use Rattle.forest.specs.Pools.{leafWords, innerWords, used, inRow, inRows, inTree, inTrees, nodeWords, nodesFrom}
 use Rattle.forest.proofs.ListLaws.{is, isnt, test, both, total-append, append-parts}
 use Rattle.walk.proofs.Subtree.{Each, HeldRows, HeldTree}
-use Rattle.walk.specs.Walks.{span, climbs, place}
-use Rattle.walk.proofs.WalkLaws.{length-span, span-append}
+use Rattle.walk.specs.Walks.{climbs, place}
+use Rattle.walk.proofs.WalkLaws.{span, length-span, span-append}
 use Rattle.forest.proofs.CountLaws.{node-length}
 use Rattle.forest.proofs.WordLaws.{row-miss, tree-miss, count-append}
 
@@ -155,7 +155,7 @@ module _ (st : ℕ → List ℕ) where
 
 -- the words of the nodes, one by one
 module _ (ws : List ℕ) (T : ℕ) (xs : List Tree) where
-  pub nodes-join : (n c : ℕ) → 1 ≤ n → ((k : ℕ) → n ≤ k → k < n + c → span ws (place T k) 16 ≡ nodeWords xs k) → span ws (place T n) (16 * c) ≡ nodesFrom xs n c
+  pub nodes-join : (n c : ℕ) → 1 ≤ n → ((k : ℕ) → n ≤ k → k < n + c → span ws (place T k) 16 ≡ nodeWords xs k) → span ws (place T n) (16 * c) ≡ nodesFrom (nodeWords xs) n c
   nodes-join n zero a h = refl
   nodes-join n (suc c) a h =
       let e : 16 * suc c ≡ 16 + 16 * c = omega arith in
@@ -163,12 +163,12 @@ module _ (ws : List ℕ) (T : ℕ) (xs : List Tree) where
       let i = nodes-join (suc n) c (omega arith) (λ k g l. h k (omega arith) (omega arith)) in
       rw e (span-append ws (place T n) 16 (16 * c) ∙ ap₂ (λ (u v : List ℕ). u ++ v) (h n (omega arith) (omega arith)) (rw p i))
 
-  pub nodes-part : (n c : ℕ) → 1 ≤ n → span ws (place T n) (16 * c) ≡ nodesFrom xs n c → (k : ℕ) → n ≤ k → k < n + c → span ws (place T k) 16 ≡ nodeWords xs k
+  pub nodes-part : (n c : ℕ) → 1 ≤ n → span ws (place T n) (16 * c) ≡ nodesFrom (nodeWords xs) n c → (k : ℕ) → n ≤ k → k < n + c → span ws (place T k) 16 ≡ nodeWords xs k
   nodes-part n zero a h k g l = absurd (omega arith)
   nodes-part n (suc c) a h k g l =
       let e : 16 * suc c ≡ 16 + 16 * c = omega arith in
       let p : place T n + 16 ≡ place T (suc n) = omega arith in
-      let d : span ws (place T n) 16 ++ span ws (place T (suc n)) (16 * c) ≡ nodeWords xs n ++ nodesFrom xs (suc n) c = rw (e, span-append ws (place T n) 16 (16 * c), p) at h in
+      let d : span ws (place T n) 16 ++ span ws (place T (suc n)) (16 * c) ≡ nodeWords xs n ++ nodesFrom (nodeWords xs) (suc n) c = rw (e, span-append ws (place T n) 16 (16 * c), p) at h in
       let i = append-parts (span ws (place T n) 16) (nodeWords xs n) _ _ (length-span ws (place T n) 16 ∙ sym (node-length xs n)) d in
       elim (test (eqb n k)) [
         | is f ↦ let s : n ≡ k = eqb-true n k f in rw s at (i .0)

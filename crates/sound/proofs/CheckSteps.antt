@@ -12,7 +12,7 @@ use Rattle.forest.proofs.ListLaws.{is, isnt, test}
 use Rattle.walk.specs.declared.Walked.{Walked}
 use Rattle.walk.specs.Marks.{has, mark}
 use Rattle.walk.specs.Walks.{zeros, bad, place, meets, walk}
-use Rattle.sound.specs.Checks.{levels, wide, fine, treeWalk, trees, frees, allMarked, framed, stacked, filled, checked}
+use Rattle.sound.specs.Checks.{levels, wide, fine, treeWalk, trees, freeWalk, allMarked, framed, stacked, filled, checked}
 use Rattle.sound.specs.Exact.{Exact}
 use Rattle.sound.proofs.CheckYes.{check-yes}
 use Rattle.sound.proofs.CheckDoes.{check-does}
@@ -84,23 +84,23 @@ module _ (ws : List ℕ) (T N r i : ℕ) (ms : List ℕ) where
     abbrev n : ℕ
     n = getD ws (s + i) 0
 
-    pub frees-no : i < r → meets N ms n ≡ false → bad ≡ frees ws T N (r - i) (s + i) ms
+    pub frees-no : i < r → meets N ms n ≡ false → bad ≡ freeWalk ws T N (r - i) (s + i) ms
     frees-no h m = let d : r - i ≡ suc (r - (i + 1)) = omega arith in rw (d, m)
 
-    pub frees-full : i < r → meets N ms n ≡ true → zeros ws (place T n) 16 ≡ false → bad ≡ frees ws T N (r - i) (s + i) ms
+    pub frees-full : i < r → meets N ms n ≡ true → zeros ws (place T n) 16 ≡ false → bad ≡ freeWalk ws T N (r - i) (s + i) ms
     frees-full h m z = let d : r - i ≡ suc (r - (i + 1)) = omega arith in rw (d, m, z)
 
     pub frees-on : i < r → meets N ms n ≡ true → zeros ws (place T n) 16 ≡ true → (ns : List ℕ) → ns ≡ mark ms n →
-        frees ws T N (r - i) (s + i) ms ≡ frees ws T N (r - (i + 1)) (s + (i + 1)) ns
+        freeWalk ws T N (r - i) (s + i) ms ≡ freeWalk ws T N (r - (i + 1)) (s + (i + 1)) ns
     frees-on h m z ns e =
         let d : r - i ≡ suc (r - (i + 1)) = omega arith in
         let a : s + (i + 1) ≡ suc (s + i) = omega arith in
         rw (d, m, z, a, e)
 
-    pub frees-end : r ≤ i → frees ws T N (r - i) (s + i) ms ≡ fine ms
+    pub frees-end : r ≤ i → freeWalk ws T N (r - i) (s + i) ms ≡ fine ms
     frees-end h = let d : r - i ≡ 0 = omega arith in rw d
 
-pub frees-start : (ws : List ℕ) (T N r s : ℕ) (ms : List ℕ) → frees ws T N (r - 0) (s + 0) ms ≡ frees ws T N r s ms
+pub frees-start : (ws : List ℕ) (T N r s : ℕ) (ms : List ℕ) → freeWalk ws T N (r - 0) (s + 0) ms ≡ freeWalk ws T N r s ms
 frees-start ws T N r s ms = let a : r - 0 ≡ r = omega arith in let b : s + 0 ≡ s = omega arith in rw (a, b)
 
 pub trees-start : (ws : List ℕ) (T N r : ℕ) (ms : List ℕ) → trees ws T N leafLeast (r - 0) (1 + 0) ms ≡ trees ws T N leafLeast r 1 ms
@@ -120,15 +120,15 @@ module _ (ms : List ℕ) where
   all-end (suc k) h = absurd (omega arith)
 
 -- the stack and the whole
-module _ (ws : List ℕ) (T N F : ℕ) (ms : List ℕ) (y : Walked) (e : y ≡ frees ws T N F (T + 3 + 16 * N) ms) where
+module _ (ws : List ℕ) (T N F : ℕ) (ms : List ℕ) (y : Walked) (e : y ≡ freeWalk ws T N F (T + 3 + 16 * N) ms) where
   pub stack-no : y .ok ≡ false → false ≡ stacked ws T N F ms
   unfolding stacked
-  stack-no o = let v : frees ws T N F (T + 3 + 16 * N) ms .ok ≡ false = ap (λ (u : Walked). u .ok) (sym e) ∙ o in rw v
+  stack-no o = let v : freeWalk ws T N F (T + 3 + 16 * N) ms .ok ≡ false = ap (λ (u : Walked). u .ok) (sym e) ∙ o in rw v
 
   pub stack-yes : (z a r : Bool) → y .ok ≡ true → z ≡ zeros ws (T + 3 + 16 * N + F) (N - F) → z && allMarked (y .marks) N ≡ r → r ≡ stacked ws T N F ms
   unfolding stacked
   stack-yes z a r o q d =
-      let v : frees ws T N F (T + 3 + 16 * N) ms .ok ≡ true = ap (λ (u : Walked). u .ok) (sym e) ∙ o in
+      let v : freeWalk ws T N F (T + 3 + 16 * N) ms .ok ≡ true = ap (λ (u : Walked). u .ok) (sym e) ∙ o in
       sym d ∙ rw (v, q) (ap (λ (u : Walked). zeros ws (T + 3 + 16 * N + F) (N - F) && allMarked (u .marks) N) e)
 
 module _ (ws : List ℕ) (T N : ℕ) (x : Walked) (e : x ≡ trees ws T N leafLeast T 1 (replicate 8 0)) where

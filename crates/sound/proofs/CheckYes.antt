@@ -13,14 +13,14 @@ use Rattle.forest.specs.Trees.{numbers}
 use Rattle.forest.specs.Pools.{Pool, WellFormed, AllGood, used, root, nodeWords, nodesFrom, encode, Sound}
 use Rattle.forest.proofs.ListLaws.{is, isnt, test, both, four, total-append}
 use Rattle.walk.specs.declared.Walked.{Walked}
-use Rattle.walk.specs.Marks.{has, mark, markAll}
-use Rattle.walk.proofs.MarkLaws.{Small, marks-count, clean, has-clean}
+use Rattle.walk.specs.Marks.{has, mark}
+use Rattle.walk.proofs.MarkLaws.{markAll, Small, marks-count, clean, has-clean}
 use Rattle.walk.proofs.Subtree.{flat, rowsOf, pairsOf, numsOf, Each, HeldTree, Fresh}
 use Rattle.walk.proofs.Towers.{each-join, Wide, one-good, held-rows, root-rows, numbers-rows}
-use Rattle.walk.specs.Walks.{span, zeros, place, meets, others, walk}
-use Rattle.walk.proofs.WalkLaws.{length-span, zeros-pad, pad-span, length-items}
+use Rattle.walk.specs.Walks.{zeros, place, meets, others, walk}
+use Rattle.walk.proofs.WalkLaws.{span, length-span, zeros-pad, pad-span, length-items}
 use Rattle.walk.proofs.WalkExact.{store, Ranged, sub, num-sub, subs, length-subs, walk-yes, meets-yes, fresh-join, marks-append}
-use Rattle.sound.specs.Checks.{levels, wide, fine, treeWalk, trees, frees, allMarked, framed, stacked, filled, checked}
+use Rattle.sound.specs.Checks.{levels, wide, fine, treeWalk, trees, freeWalk, allMarked, framed, stacked, filled, checked}
 use Rattle.sound.proofs.CheckLaws.{climbs-rising, layout, trees-find, nodes-join, total-reverse}
 use Rattle.forest.proofs.WordLaws.{count-append}
 
@@ -161,7 +161,7 @@ module _ (ws : List ℕ) (T N m : ℕ) where
     pub blank : Each (λ n. st n ≡ pad 16 []) us
     pub out : x ≡ fine (markAll ms us)
 
-  pub frees-yes : (r i : ℕ) (ms : List ℕ) → frees ws T N r i ms .ok ≡ true → FreesYes (span ws i r) ms (frees ws T N r i ms)
+  pub frees-yes : (r i : ℕ) (ms : List ℕ) → freeWalk ws T N r i ms .ok ≡ true → FreesYes (span ws i r) ms (freeWalk ws T N r i ms)
   frees-yes zero i ms r = record { ranged = tt; fresh = tt; blank = tt; out = refl }
   frees-yes (suc k) i ms r = elim (test (meets N ms (getD ws i 0) && zeros ws (place T (getD ws i 0)) 16)) [
     | isnt e ↦ absurd (true≢false (sym (simp e at r)))
@@ -233,7 +233,7 @@ module _ (ws : List ℕ) (T N m : ℕ) where
     walked-trees = trees-yes T 1 clean (both (trees ws T N m T 1 clean .ok) (stacked ws T N F (trees ws T N m T 1 clean .marks)) filled-ok .0)
 
     pub record Rest : Type 0 where
-      pub frees-ok : FreesYes (span ws S F) (markAll clean us) (frees ws T N F S (markAll clean us))
+      pub frees-ok : FreesYes (span ws S F) (markAll clean us) (freeWalk ws T N F S (markAll clean us))
       pub empty : zeros ws (S + F) (N - F) ≡ true
       pub full : allMarked (markAll clean (us ++ span ws S F)) N ≡ true
 
@@ -243,7 +243,7 @@ module _ (ws : List ℕ) (T N m : ℕ) where
         let o : trees ws T N m T 1 clean .marks ≡ markAll clean us = ap (λ (x : Walked). x .marks) (walked-trees .out) in
         let s : stacked ws T N F (markAll clean us) ≡ true =
         subst (λ (l : List ℕ). stacked ws T N F l ≡ true) o (both (trees ws T N m T 1 clean .ok) (stacked ws T N F (trees ws T N m T 1 clean .marks)) filled-ok .1) in
-        let y = frees ws T N F S (markAll clean us) in
+        let y = freeWalk ws T N F S (markAll clean us) in
         let a = both (y .ok) (zeros ws (S + F) (N - F) && allMarked (y .marks) N) s in
         let b = both (zeros ws (S + F) (N - F)) (allMarked (y .marks) N) (a .1) in
         let f = frees-yes F S (markAll clean us) (a .0) in
@@ -282,7 +282,7 @@ module _ (ws : List ℕ) (T N m : ℕ) where
         let l : length ts ≡ T = length-map (span ws 1 T) treeOf ∙ length-span ws 1 T in
         let f : length (reverse (span ws S F)) ≡ F = length-reverse (span ws S F) ∙ length-span ws S F in
         let p : place T 1 ≡ T + 2 = omega arith in
-        let n : span ws (T + 2) (16 * N) ≡ nodesFrom ts 1 N = rw p at (nodes-join ws T ts 1 N (omega arith) (λ k a b. node-same k a (omega arith))) in
+        let n : span ws (T + 2) (16 * N) ≡ nodesFrom (nodeWords ts) 1 N = rw p at (nodes-join ws T ts 1 N (omega arith) (λ k a b. node-same k a (omega arith))) in
         rw (l, walked-trees .rooted, ← n, f, reverse-reverse (span ws S F), pad-span ws N F S (frame .few-free) (the-rest .empty))
         (sym (layout ws T N (frame .long) ∙ rw (t-same, n-same)))
 

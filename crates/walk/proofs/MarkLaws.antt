@@ -14,8 +14,13 @@ use lib.Pow.{shl-shr, pow-add, pow-lt, shr-lt}
 use borrow.Author.Tests.{eqb-true, eqb-false, eq-eqb, ne-eqb}
 use Rattle.forest.specs.Lists.{once, count}
 use Rattle.forest.proofs.ListLaws.{is, isnt, test, tri, less, same, more}
-use Rattle.walk.specs.Marks.{bit, has, mark, markAll}
+use Rattle.walk.specs.Marks.{bit, has, mark}
 use Rattle.walk.proofs.Subtree.{Each, Fresh}
+
+-- the marks with those of all numbers of a list
+abbrev pub markAll : List ℕ → List ℕ → List ℕ
+markAll ms [] = ms
+markAll ms (n ∷ ns) = markAll (mark ms n) ns
 
 bit-or : (a b i : ℕ) → bit (bitOr a b) i ≡ max (bit a i) (bit b i)
 bit-or a b i =

@@ -11,12 +11,13 @@ use Rattle.forest.specs.Pairs.{Item}
 use Rattle.forest.specs.Rows.{node, front, line}
 use Rattle.forest.proofs.ListLaws.{is, isnt, test, both}
 use Rattle.walk.specs.declared.Walked.{Walked}
-use Rattle.walk.specs.Marks.{has, mark, markAll}
+use Rattle.walk.specs.Marks.{has, mark}
 use Rattle.walk.proofs.Subtree.{Sub, crown, flat, pairsOf, numsOf, Flagged, Each, Filled, Held, Fresh}
 use Rattle.walk.specs.Walks.{lastly}
+use Rattle.walk.proofs.MarkLaws.{markAll}
 use Rattle.walk.proofs.Towers.{tops, each-join, each-left, each-right}
-use Rattle.walk.specs.Walks.{span, climbs, ends, bad, place, meets, leafFits, leafItems, leafWalk, innerFits, rest, others, innerWalk, walk}
-use Rattle.walk.proofs.WalkLaws.{lower-some, leaf-yes, leaf-does, inner-yes, inner-does}
+use Rattle.walk.specs.Walks.{climbs, ends, bad, place, meets, leafFits, leafItems, leafWalk, innerFits, rest, others, innerWalk, walk}
+use Rattle.walk.proofs.WalkLaws.{span, lower-some, leaf-yes, leaf-does, inner-yes, inner-does}
 use Rattle.forest.proofs.RowLaws.{length-line}
 
 -- Appended lists

@@ -11,7 +11,7 @@ use Rattle.forest.specs.Lists.{pad}
 use Rattle.forest.specs.Pairs.{Item}
 use Rattle.forest.specs.Pools.{leafWords, innerWords}
 use Rattle.walk.specs.Walks.{lower}
-use Rattle.walk.specs.Walks.{span, items, zeros, leafFits, leafItems, innerFits, others}
+use Rattle.walk.specs.Walks.{items, zeros, leafFits, leafItems, innerFits, others}
 use Rattle.forest.proofs.ListLaws.{both, four, append-parts}
 use Rattle.forest.proofs.CountLaws.{length-pad}
 
@@ -21,6 +21,12 @@ lower-some true m h = omega arith
 lower-some false m h = h
 
 -- Words
+
+-- r words from place a on
+abbrev pub span : List ℕ → ℕ → ℕ → List ℕ
+span ws a zero = []
+span ws a (suc r) = getD ws a 0 ∷ span ws (suc a) r
+
 module _ (ws : List ℕ) where
   pub length-span : (a r : ℕ) → length (span ws a r) ≡ r
   length-span a zero = refl

@@ -3,8 +3,8 @@ use mathlib.Core.Path.{_≡_, refl}
 use borrow.Author.Needs.{needs}
 use Prim.Native.Nat.{_-_}
 use native.Mathlib.Omega.{arith}
-use Rattle.remove.specs.Ends.{Going}
 use Rattle.remove.proofs.ShrinkLaws
+use Rattle.remove.proofs.ShrinkLaws.{Going}
 use Rattle.remove.proofs.shrink_root.Statement.{statement}
 use Rattle.remove.proofs.shrink_root.Tie as tie
 use Rattle.pool.proofs.free_node.Reads as free-node-reads

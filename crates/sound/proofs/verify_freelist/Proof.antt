@@ -5,7 +5,7 @@ use native.Mathlib.Omega.{arith}
 use lib.ListN.{length, getD}
 use borrow.Author.Needs.{needs}
 use borrow.Author.Tests.{not-true, not-false}
-use Rattle.sound.specs.Checks.{frees}
+use Rattle.sound.specs.Checks.{freeWalk}
 use Rattle.walk.specs.Walks.{meets}
 use Rattle.walk.proofs.Laws.{meets-none, meets-out, meets-in, has-read, mark-write}
 use Rattle.walk.proofs.WalkSteps.{Placed, placed}
@@ -14,7 +14,7 @@ use Rattle.sound.proofs.verify_freelist.Statement.{statement}
 use Rattle.sound.proofs.verify_freelist.Tie as tie
 
 abbrev Inv-loop : tie.InvT-loop
-Inv-loop ws t n f s all₀ i₀ all i = (i ≤ f) × (length all ≡ 8) × (frees ws t n (f - i₀) (t + 3 + 16 * n + i₀) all₀ ≡ frees ws t n (f - i) (t + 3 + 16 * n + i) all)
+Inv-loop ws t n f s all₀ i₀ all i = (i ≤ f) × (length all ≡ 8) × (freeWalk ws t n (f - i₀) (t + 3 + 16 * n + i₀) all₀ ≡ freeWalk ws t n (f - i) (t + 3 + 16 * n + i) all)
 
 abbrev μ-loop : tie.MeasureT-loop
 μ-loop ws t n f s all₀ i₀ all i = f - i
