@@ -60,9 +60,9 @@ module _ (c : Cursor) (h : c .size ≡ 0 → ⊥) where
   unfolding atFirst
   first-inside k = simp (lt-ltb 0 (c .size) (omega arith), ne-eqb (getD (c .places) (c .size - 1) 0) 0 k)
 
-  pub first-front : (b : Branch) → getD (c .places) (c .size - 1) 0 ≡ 0 → b ≡ leftBranch (c .places) (c .size - 1) → noBranch b ≡ atFirst c
+  pub first-front : (b d : Branch) → getD (c .places) (c .size - 1) 0 ≡ 0 → d ≡ leftBranch (c .places) (c .size - 1) → d ≡ b → noBranch b ≡ atFirst c
   unfolding atFirst
-  first-front b k e = rw (lt-ltb 0 (c .size) (omega arith), eq-eqb (getD (c .places) (c .size - 1) 0) 0 k, e)
+  first-front b d k e q = rw (lt-ltb 0 (c .size) (omega arith), eq-eqb (getD (c .places) (c .size - 1) 0) 0 k, ← e, q)
 
 no-branch : (b : Branch) → noBranch b ≡ true → b ≡ branch.Nothing
 no-branch branch.Nothing e = refl

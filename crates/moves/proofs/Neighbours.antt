@@ -16,6 +16,7 @@ use Rattle.forest.proofs.RowLaws.{length-items}
 use Rattle.path.specs.Ways.{base, block, descend, Deep, Extends}
 use Rattle.path.specs.Levels.{pushed, cutAt, rightBranch, leftBranch, Safe}
 use Rattle.path.specs.Cores.{Ready, At, Standing}
+use Rattle.path.specs.declared.Branch.{Branch}
 use Rattle.path.specs.declared.Branch.the-variants as branch
 use Rattle.path.specs.declared.Way.{Way}
 use Rattle.path.specs.declared.Way.the-variants.{First, Last}
@@ -63,11 +64,19 @@ module _ (ws : List ℕ) (t : ℕ) (c : Cursor) (y : Ready ws t (c .tree)) (d : 
       }
 
   -- the level where the path branches off
-  pub right-level : (l : ℕ) → rightBranch ws t (c .nodes) (c .places) (c .size - 1) ≡ branch.At l → Level ws t c l × (getD (c .places) l 0 + 16 < getD ws (base t (getD (c .nodes) l 0)) 0)
-  right-level l e = let m = right-more ws t (c .nodes) (c .places) (c .size - 1) l e in (level l (m .0), m .1)
+  pub right-level : (l : ℕ) (b : Branch) → b ≡ rightBranch ws t (c .nodes) (c .places) (c .size - 1) → b ≡ branch.At l →
+      Level ws t c l × (getD (c .places) l 0 + 1 + 16 ≤ getD ws (base t (getD (c .nodes) l 0)) 0) × (getD (c .places) l 0 < 7)
+  right-level l b e q =
+      let m = right-more ws t (c .nodes) (c .places) (c .size - 1) l (sym e ∙ q) in
+      let v = level l (m .0) in
+      (v, omega (arith, m .1), omega (arith, m .1, v .most))
 
-  pub left-level : (l : ℕ) → leftBranch (c .places) (c .size - 1) ≡ branch.At l → Level ws t c l × (1 ≤ getD (c .places) l 0)
-  left-level l e = let m = left-more (c .places) (c .size - 1) l e in (level l (m .0), m .1)
+  pub left-level : (l : ℕ) (b : Branch) → b ≡ leftBranch (c .places) (c .size - 1) → b ≡ branch.At l →
+      Level ws t c l × (1 ≤ getD (c .places) l 0) × (getD (c .places) l 0 - 1 + 16 ≤ getD ws (base t (getD (c .nodes) l 0)) 0) × (getD (c .places) l 0 < 8)
+  left-level l b e q =
+      let m = left-more (c .places) (c .size - 1) l (sym e ∙ q) in
+      let v = level l (m .0) in
+      (v, m .1, omega (arith, v .place), omega (arith, v .place, v .most))
 
   pub safe : Safe ws t c (c .size - 1)
   safe = record {
@@ -171,27 +180,27 @@ module _ (ws : List ℕ) (t : ℕ) (c : Cursor) (y : Ready ws t (c .tree)) (h : 
         ap (pathOf (treeOf p (c .tree))) e ∙ tree-row (leafEnd (u .L) i)
 
   -- no level has more to the right
-  pub next-none : (r : Cursor) → rightBranch ws t (c .nodes) (c .places) (c .size - 1) ≡ branch.Nothing → r ≡ cursorAt (c .tree) [] → Steps nextLeaf ws c r
-  next-none r b e = record {
+  pub next-none : (r : Cursor) (b : Branch) → b ≡ rightBranch ws t (c .nodes) (c .places) (c .size - 1) → b ≡ branch.Nothing → r ≡ cursorAt (c .tree) [] → Steps nextLeaf ws c r
+  next-none r b q z e = record {
     to = λ p s o a.
         let u = seat ws t c y h p s o a in
         elim (test (ltb (suc (u .j)) (length (u .L)))) [
           | isnt k ↦ e ∙ ap (cursorAt (c .tree)) (sym (off-path p s u (ltb-false _ _ k)))
-          | is k ↦ absurd (none-at _ (sym b ∙ next-right p s u (ltb-true _ _ k) .branch))
+          | is k ↦ absurd (none-at _ (sym z ∙ q ∙ next-right p s u (ltb-true _ _ k) .branch))
         ];
   }
 
   -- a step to the right at level l
-  pub next-some : (l : ℕ) (r : Cursor) → rightBranch ws t (c .nodes) (c .places) (c .size - 1) ≡ branch.At l → getD (c .places) l 0 < 7 →
+  pub next-some : (l : ℕ) (r : Cursor) (b : Branch) → b ≡ rightBranch ws t (c .nodes) (c .places) (c .size - 1) → b ≡ branch.At l → getD (c .places) l 0 < 7 →
       Turned First ws t c l (getD (c .places) l 0 + 1) r → Steps nextLeaf ws c r
-  next-some l r b w q = record {
+  next-some l r b e z w q = record {
     to = λ p s o a.
         let u = seat ws t c y h p s o a in
         elim (test (ltb (suc (u .j)) (length (u .L)))) [
-          | isnt k ↦ absurd (none-at l (sym (no-right p s u (ltb-false _ _ k)) ∙ b))
+          | isnt k ↦ absurd (none-at l (sym (no-right p s u (ltb-false _ _ k)) ∙ sym e ∙ z))
           | is k ↦
               let g = next-right p s u (ltb-true _ _ k) in
-              let x = at-level l (g .at) (sym b ∙ g .branch) in
+              let x = at-level l (g .at) (sym z ∙ e ∙ g .branch) in
               let v : l < c .size - 1 = rw x (g .above) in
               let m : stepRight ws t (c .nodes) (c .places) (pathS ws t c p s u) l ≡ pathOf (u .L ∷ u .Rs) (on (suc (u .j)) 0) = rw x (g .same) in
               let i = link-word-at ws (base t (getD (c .nodes) l 0)) (getD (c .places) l 0 + 1) (omega arith) in
@@ -200,23 +209,23 @@ module _ (ws : List ℕ) (t : ℕ) (c : Cursor) (y : Ready ws t (c .tree)) (h : 
   }
 
   -- no level has something to the left: the first leaf
-  pub prev-none : leftBranch (c .places) (c .size - 1) ≡ branch.Nothing → Steps prevLeaf ws c c
-  prev-none b = record { to = λ p s o a. go p s a (seat ws t c y h p s o a) ((seat ws t c y h p s o a) .j) refl }
+  pub prev-none : (b : Branch) → b ≡ leftBranch (c .places) (c .size - 1) → b ≡ branch.Nothing → Steps prevLeaf ws c c
+  prev-none b e z = record { to = λ p s o a. go p s a (seat ws t c y h p s o a) ((seat ws t c y h p s o a) .j) refl }
     where
       go : (p : Pool) (s : Spot) → At p c s → (u : Seat ws t p c s) (i : ℕ) → u .j ≡ i → c ≡ cursorAt (c .tree) (pathOf (treeOf p (c .tree)) (prevLeaf (leaves (treeOf p (c .tree))) s))
       go p s a u zero k = sym (ap (λ (v : Spot). cursorAt (c .tree) (pathOf (treeOf p (c .tree)) v)) (first-spot p s u k) ∙ a .same)
-      go p s a u (suc i) k = absurd (none-at _ (sym b ∙ prev-left p s u i k .branch))
+      go p s a u (suc i) k = absurd (none-at _ (sym z ∙ e ∙ prev-left p s u i k .branch))
 
   -- a step to the left at level l
-  pub prev-some : (l : ℕ) (r : Cursor) → leftBranch (c .places) (c .size - 1) ≡ branch.At l → getD (c .places) l 0 < 8 →
+  pub prev-some : (l : ℕ) (r : Cursor) (b : Branch) → b ≡ leftBranch (c .places) (c .size - 1) → b ≡ branch.At l → getD (c .places) l 0 < 8 →
       Turned Last ws t c l (getD (c .places) l 0 - 1) r → Steps prevLeaf ws c r
-  prev-some l r b w q = record { to = λ p s o a. go p s (seat ws t c y h p s o a) ((seat ws t c y h p s o a) .j) refl }
+  prev-some l r b e z w q = record { to = λ p s o a. go p s (seat ws t c y h p s o a) ((seat ws t c y h p s o a) .j) refl }
     where
       go : (p : Pool) (s : Spot) (u : Seat ws t p c s) (i : ℕ) → u .j ≡ i → r ≡ cursorAt (c .tree) (pathOf (treeOf p (c .tree)) (prevLeaf (leaves (treeOf p (c .tree))) s))
-      go p s u zero k = absurd (none-at l (sym (no-left p s u k) ∙ b))
+      go p s u zero k = absurd (none-at l (sym (no-left p s u k) ∙ sym e ∙ z))
       go p s u (suc i) k =
           let g = prev-left p s u i k in
-          let x = at-level l (g .at) (sym b ∙ g .branch) in
+          let x = at-level l (g .at) (sym z ∙ e ∙ g .branch) in
           let v : l < c .size - 1 = rw x (g .above) in
           let m : stepLeft ws t (c .nodes) (c .places) (pathS ws t c p s u) l ≡ pathOf (u .L ∷ u .Rs) (leafEnd (u .L) i) = rw x (g .same) in
           let j = link-word-at ws (base t (getD (c .nodes) l 0)) (getD (c .places) l 0 - 1) (omega arith) in

@@ -35,10 +35,10 @@ enum-told-2 : tie.Need-enum-told-2
 enum-told-2 c = search needs
 
 returns-3 : tie.Need-returns-3
-returns-3 c = first-front (c .before .before .before .before .before .before .args .t1) (c .before .before .before .before .before .if1 .left) (branch.At (c .enum-told .given .0 .0)) (c .before .before .before .if2 .left) (cc)
+returns-3 c = first-front (c .before .before .before .before .before .before .args .t1) (c .before .before .before .before .before .if1 .left) (branch.At (c .enum-told .given .0 .0)) _ (c .before .before .before .if2 .left) (c .before .before .left-sibling-branch-level .ensures) (c .enum-told .given .1)
 
 returns-4 : tie.Need-returns-4
-returns-4 c = first-front (c .before .before .before .before .before .before .args .t1) (c .before .before .before .before .before .if1 .left) branch.Nothing (c .before .before .before .if2 .left) (cc)
+returns-4 c = first-front (c .before .before .before .before .before .before .args .t1) (c .before .before .before .before .before .if1 .left) branch.Nothing _ (c .before .before .before .if2 .left) (c .before .before .left-sibling-branch-level .ensures) (c .enum-told2 .given .1)
 
 pub at-first-entry-spec : {M : Type 1} → statement M
 at-first-entry-spec =
