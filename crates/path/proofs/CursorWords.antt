@@ -45,6 +45,12 @@ cut-at t path l h k =
     let g = cut-pad (λ q. q .1) path l h k in
     λ i. record { tree = t; size = e i; nodes = f i; places = g i }
 
+-- the cursor of the first l levels, from its words
+pub cut-is : (c : Cursor) (l : ℕ) (ns ps : List ℕ) → ns ≡ pad mostLevels (take l (c .nodes)) → ps ≡ pad mostLevels (take l (c .places)) →
+    record { tree = c .tree; size = l; nodes = ns; places = ps } ≡ cutAt c l
+unfolding cutAt
+cut-is c l ns ps e f = λ i. record { tree = c .tree; size = l; nodes = e i; places = f i }
+
 -- what stands at a level
 pub node-at : (t : ℕ) (path : Path) (l : ℕ) → l < 16 → getD ((cursorAt t path) .nodes) l 0 ≡ (getD path l (0, 0)) .0
 node-at t path l h = getD-pad mostLevels (map (λ (q : ℕ × ℕ). q .0) path) l h ∙ List·getD-map (λ (q : ℕ × ℕ). q .0) path l (0, 0)

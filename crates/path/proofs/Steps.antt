@@ -55,38 +55,61 @@ module _ (ws : List ℕ) (b : ℕ) where
       pub lent-asks : b + 16 ≤ length ws → ((length (take (b + 8 - (b + 1)) (drop (b + 1) ws)) ≡ 7) × (getD ws b 0 - tag ≤ 7)) × KeysRise (lent tag)
       lent-asks l = ((length-take-le (b + 8 - (b + 1)) (drop (b + 1) ws) (simp length-drop (omega arith)) ∙ omega arith, omega arith), rw lent-is r)
 
-      pub found-here : (k i : ℕ) (x : Found) → x ≡ searched k (lent tag) → x ≡ Here i → Stops k (keysOf tag (blockAt ws b)) i (i + 1)
+      found-here : (k i : ℕ) (x : Found) → x ≡ searched k (lent tag) → x ≡ Here i → Stops k (keysOf tag (blockAt ws b)) i (i + 1)
       found-here k i x e q = stops-here k (keysOf tag (blockAt ws b)) i r (sym q ∙ e ∙ ap (searched k) lent-is)
 
-      pub found-absent : (k i : ℕ) (x : Found) → x ≡ searched k (lent tag) → x ≡ Absent i → Stops k (keysOf tag (blockAt ws b)) i i
+      found-absent : (k i : ℕ) (x : Found) → x ≡ searched k (lent tag) → x ≡ Absent i → Stops k (keysOf tag (blockAt ws b)) i i
       found-absent k i x e q = stops-absent k (keysOf tag (blockAt ws b)) i r (sym q ∙ e ∙ ap (searched k) lent-is)
 
   few-keys : (tag : ℕ) → length (keysOf tag (blockAt ws b)) ≤ getD ws b 0 - tag
   few-keys tag = simp (length-take, first-word) (omega arith)
 
-  pub turns-key : (k i up : ℕ) → Stops k (keysOf 16 (blockAt ws b)) i up → (up ≡ turnOf (Key k) (blockAt ws b)) × (up ≤ getD ws b 0 - 16)
+  -- what turn and land give
+  abbrev Turns : Way → ℕ → Type 0
+  Turns way i = (i ≡ turnOf way (blockAt ws b)) × (i ≤ getD ws b 0 - 16)
+
+  abbrev Lands : Way → ℕ → Type 0
+  Lands way i = (i ≡ landOf way (blockAt ws b)) × (i ≤ getD ws b 0 - 32)
+
+  turns-key : (way : Way) (k i up : ℕ) → way ≡ Key k → Stops k (keysOf 16 (blockAt ws b)) i up → Turns way up
   unfolding turnOf
-  turns-key k i up s = (s .upto-is, omega (arith, few-keys 16))
+  turns-key way k i up e s = rw e (s .upto-is, omega (arith, few-keys 16, s .few))
 
-  pub lands-key : (k i up : ℕ) → Stops k (keysOf 32 (blockAt ws b)) i up → (i ≡ landOf (Key k) (blockAt ws b)) × (i ≤ getD ws b 0 - 32)
+  lands-key : (way : Way) (k i up : ℕ) → way ≡ Key k → Stops k (keysOf 32 (blockAt ws b)) i up → Lands way i
   unfolding landOf
-  lands-key k i up s = (s .place, omega (arith, few-keys 32))
+  lands-key way k i up e s = rw e (s .place, omega (arith, few-keys 32, s .few))
 
-  pub turns-last : getD ws b 0 - 16 ≡ turnOf Last (blockAt ws b)
-  unfolding turnOf
-  turns-last = rw first-word
+  -- each return, with the way and the answer of the search that the code has matched
+  module _ (h : getD ws b 0 ≤ 23) (r : KeysRise (keysOf 16 (blockAt ws b))) (way : Way) where
+    pub turns-here : (k i : ℕ) (x : Found) → way ≡ Key k → x ≡ searched k (lent 16) → x ≡ Here i → Turns way (i + 1)
+    turns-here k i x m e q = turns-key way k i (i + 1) m (found-here 16 h r k i x e q)
 
-  pub turns-first : 0 ≡ turnOf First (blockAt ws b)
-  unfolding turnOf
-  turns-first = refl
+    pub turns-absent : (k i : ℕ) (x : Found) → way ≡ Key k → x ≡ searched k (lent 16) → x ≡ Absent i → Turns way i
+    turns-absent k i x m e q = turns-key way k i i m (found-absent 16 h r k i x e q)
 
-  pub lands-last : getD ws b 0 - 32 - 1 ≡ landOf Last (blockAt ws b)
-  unfolding landOf
-  lands-last = rw first-word (omega arith)
+  module _ (h : getD ws b 0 ≤ 39) (r : KeysRise (keysOf 32 (blockAt ws b))) (way : Way) where
+    pub lands-here : (k i : ℕ) (x : Found) → way ≡ Key k → x ≡ searched k (lent 32) → x ≡ Here i → Lands way i
+    lands-here k i x m e q = lands-key way k i (i + 1) m (found-here 32 h r k i x e q)
 
-  pub lands-first : 0 ≡ landOf First (blockAt ws b)
-  unfolding landOf
-  lands-first = refl
+    pub lands-absent : (k i : ℕ) (x : Found) → way ≡ Key k → x ≡ searched k (lent 32) → x ≡ Absent i → Lands way i
+    lands-absent k i x m e q = lands-key way k i i m (found-absent 32 h r k i x e q)
+
+  module _ (way : Way) where
+    pub turns-first : way ≡ First → Turns way 0
+    unfolding turnOf
+    turns-first e = rw e (refl, omega arith)
+
+    pub turns-last : way ≡ Last → Turns way (getD ws b 0 - 16)
+    unfolding turnOf
+    turns-last e = rw e (rw first-word, omega arith)
+
+    pub lands-first : way ≡ First → Lands way 0
+    unfolding landOf
+    lands-first e = rw e (refl, omega arith)
+
+    pub lands-last : way ≡ Last → Lands way (getD ws b 0 - 32 - 1)
+    unfolding landOf
+    lands-last e = rw e (rw first-word (omega arith), omega arith)
 
 -- the nodes that going down meets
 module _ (ws : List ℕ) (t n : ℕ) (l : Lies ws t n) where

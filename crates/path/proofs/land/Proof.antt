@@ -1,6 +1,6 @@
 use Prim.Native.Nat.{_-_}
 use native.Mathlib.Omega.{arith}
-use Rattle.path.proofs.Steps.{lent-asks, found-here, found-absent, lands-key, lands-first, lands-last}
+use Rattle.path.proofs.Steps.{lent-asks, lands-here, lands-absent, lands-first, lands-last}
 use borrow.Author.Needs.{needs}
 use Rattle.path.proofs.land.Statement.{statement}
 use Rattle.path.proofs.land.Tie as tie
@@ -61,22 +61,22 @@ sub-result c = search needs
 returns : tie.Need-returns
 returns c =
     let start = c .before .before .before .before .before .before .before .before .before .before in
-    let s = found-here (start .args .ws .now) (start .args .b) 32 (start .pre .1 .0 .1) (start .pre .1 .1) _ _ _ (c .before .before .before .search .ensures) (c .before .i .given .1) in
-    let e = lands-key (start .args .ws .now) (start .args .b) _ _ _ s in
-    (cc, omega arith)
+    lands-here (start .args .ws .now) (start .args .b) (start .pre .1 .0 .1) (start .pre .1 .1) (start .args .way) _ _ _ (c .before .before .before .before .before .before .way .given .1) (c .before .before .before .search .ensures) (c .before .i .given .1)
 
 returns-2 : tie.Need-returns-2
 returns-2 c =
     let start = c .before .before .before .before .before .before .before .before .before .before in
-    let s = found-absent (start .args .ws .now) (start .args .b) 32 (start .pre .1 .0 .1) (start .pre .1 .1) _ _ _ (c .before .before .before .search .ensures) (c .before .i2 .given .1) in
-    let e = lands-key (start .args .ws .now) (start .args .b) _ _ _ s in
-    (cc, omega arith)
+    lands-absent (start .args .ws .now) (start .args .b) (start .pre .1 .0 .1) (start .pre .1 .1) (start .args .way) _ _ _ (c .before .before .before .before .before .before .way .given .1) (c .before .before .before .search .ensures) (c .before .i2 .given .1)
 
 returns-3 : tie.Need-returns-3
-returns-3 c = (cc (lands-first (c .before .before .before .before .args .ws .now) (c .before .before .before .before .args .b)), omega arith)
+returns-3 c =
+    let a = c .before .before .before .before .args in
+    lands-first (a .ws .now) (a .b) (a .way) (c .enum-told .given .1)
 
 returns-4 : tie.Need-returns-4
-returns-4 c = (cc (lands-last (c .before .before .before .before .args .ws .now) (c .before .before .before .before .args .b)), omega arith)
+returns-4 c =
+    let a = c .before .before .before .before .args in
+    lands-last (a .ws .now) (a .b) (a .way) (c .enum-told2 .given .1)
 
 pub land-spec : {M : Type 1} → statement M
 land-spec =

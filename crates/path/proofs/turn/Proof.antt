@@ -1,6 +1,6 @@
 use Prim.Native.Nat.{_-_}
 use native.Mathlib.Omega.{arith}
-use Rattle.path.proofs.Steps.{lent-asks, found-here, found-absent, turns-key, turns-first, turns-last}
+use Rattle.path.proofs.Steps.{lent-asks, turns-here, turns-absent, turns-first, turns-last}
 use borrow.Author.Needs.{needs}
 use Rattle.path.proofs.turn.Statement.{statement}
 use Rattle.path.proofs.turn.Tie as tie
@@ -49,9 +49,8 @@ enum-known-i c = search needs
 add-result : tie.Need-add-result
 add-result c =
     let start = c .before .before .before .before .before .before .before .before .before .before in
-    let s = found-here (start .args .ws .now) (start .args .b) 16 (start .pre .1 .0 .1) (start .pre .1 .1) _ _ _ (c .before .before .before .search .ensures) (c .before .i .given .1) in
-    let e = turns-key (start .args .ws .now) (start .args .b) _ _ _ s in
-    omega arith
+    let e = turns-here (start .args .ws .now) (start .args .b) (start .pre .1 .0 .1) (start .pre .1 .1) (start .args .way) _ _ _ (c .before .before .before .before .before .before .way .given .1) (c .before .before .before .search .ensures) (c .before .i .given .1) in
+    omega (arith, e .1, start .pre .1 .0 .1)
 
 enum-known-i-2 : tie.Need-enum-known-i-2
 enum-known-i-2 c = search needs
@@ -65,22 +64,22 @@ enum-told-2 c = search needs
 returns : tie.Need-returns
 returns c =
     let start = c .before .before .before .before .before .before .before .before .before .before in
-    let s = found-here (start .args .ws .now) (start .args .b) 16 (start .pre .1 .0 .1) (start .pre .1 .1) _ _ _ (c .before .before .before .search .ensures) (c .before .i .given .1) in
-    let e = turns-key (start .args .ws .now) (start .args .b) _ _ _ s in
-    (cc, omega arith)
+    turns-here (start .args .ws .now) (start .args .b) (start .pre .1 .0 .1) (start .pre .1 .1) (start .args .way) _ _ _ (c .before .before .before .before .before .before .way .given .1) (c .before .before .before .search .ensures) (c .before .i .given .1)
 
 returns-2 : tie.Need-returns-2
 returns-2 c =
     let start = c .before .before .before .before .before .before .before .before .before .before in
-    let s = found-absent (start .args .ws .now) (start .args .b) 16 (start .pre .1 .0 .1) (start .pre .1 .1) _ _ _ (c .before .before .before .search .ensures) (c .before .i2 .given .1) in
-    let e = turns-key (start .args .ws .now) (start .args .b) _ _ _ s in
-    (cc, omega arith)
+    turns-absent (start .args .ws .now) (start .args .b) (start .pre .1 .0 .1) (start .pre .1 .1) (start .args .way) _ _ _ (c .before .before .before .before .before .before .way .given .1) (c .before .before .before .search .ensures) (c .before .i2 .given .1)
 
 returns-3 : tie.Need-returns-3
-returns-3 c = (cc (turns-first (c .before .before .before .before .args .ws .now) (c .before .before .before .before .args .b)), omega arith)
+returns-3 c =
+    let a = c .before .before .before .before .args in
+    turns-first (a .ws .now) (a .b) (a .way) (c .enum-told .given .1)
 
 returns-4 : tie.Need-returns-4
-returns-4 c = (cc (turns-last (c .before .before .before .before .args .ws .now) (c .before .before .before .before .args .b)), omega arith)
+returns-4 c =
+    let a = c .before .before .before .before .args in
+    turns-last (a .ws .now) (a .b) (a .way) (c .enum-told2 .given .1)
 
 pub turn-spec : {M : Type 1} → statement M
 turn-spec =
