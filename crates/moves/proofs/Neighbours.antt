@@ -3,7 +3,7 @@ use mathlib.Core.Path.{_≡_, refl, sym, ap, _∙_}
 use mathlib.Core.List.{List, [], _∷_, _++_, append-assoc}
 use Prim.Native.Nat.{ℕ, zero, suc, _+_, _-_, _≤_, _<_}
 use native.Mathlib.Omega.{arith}
-use lib.ListN.{length, take, getD}
+use lib.ListN.{length, take, getD, length-append}
 use lib.Seq.{length-take-le}
 use lib.Dec.{ltb}
 use borrow.Author.Tests.{lt-ltb, le-ltb, ltb-true, ltb-false}
@@ -13,8 +13,8 @@ use Rattle.forest.specs.Cursors.{Spot, off, on, leaves, sizeAt, leafStart, leaf
 use Rattle.forest.specs.declared.Cursor.{Cursor}
 use Rattle.forest.proofs.ListLaws.{is, isnt, test, tests}
 use Rattle.forest.proofs.RowLaws.{length-items}
-use Rattle.path.specs.Ways.{base, block, descend, Deep, Extends}
-use Rattle.path.specs.Levels.{pushed, cutAt, rightBranch, leftBranch, Safe}
+use Rattle.path.specs.Ways.{base, block, descend, Deep}
+use Rattle.path.specs.Levels.{pushed, extended, cutAt, rightBranch, leftBranch, Safe}
 use Rattle.path.specs.Cores.{Ready, At, Standing}
 use Rattle.path.specs.declared.Branch.{Branch}
 use Rattle.path.specs.declared.Branch.the-variants as branch
@@ -23,11 +23,11 @@ use Rattle.path.specs.declared.Way.the-variants.{First, Last}
 use Rattle.path.proofs.NodeWords.{land-first, land-last}
 use Rattle.path.proofs.Laid.{deep-lies}
 use Rattle.path.proofs.Downward.{leaf-step}
-use Rattle.path.proofs.CursorWords.{push-at, cut-at}
-use Rattle.path.proofs.Steps.{first-word, link-word-at, child-deep}
+use Rattle.path.proofs.CursorWords.{push-at, cut-at, extend-at}
+use Rattle.path.proofs.Steps.{first-word, link-word-at, child-deep, length-descend}
 use Rattle.path.proofs.Seats.{Seat, seat, pathS, seat-size, seat-node, seat-place, inner-seat, own-pool, own-spot, own-seat, row-is}
 use Rattle.path.proofs.Branches.{right-more, left-more, none-at, at-level}
-use Rattle.moves.specs.Moves.{Level, Turned, Steps, nextLeaf, prevLeaf}
+use Rattle.moves.specs.Moves.{Level, branched, Steps, nextLeaf, prevLeaf}
 use Rattle.moves.proofs.Sideways.{Agrees, stepRight, stepLeft, Right, Left, right-some, right-none, left-some, left-none}
 use Rattle.forest.proofs.StandLaws.{length-pathUp}
 
@@ -96,19 +96,25 @@ level-child ws t c l o v m =
 pub standing-size : (ws : List ℕ) (t : ℕ) (c : Cursor) → Ready ws t (c .tree) → Standing ws c → c .size ≤ 6
 standing-size ws t c y d = elim (test (ltb 0 (c .size))) [ is e ↦ size-few ws t c y d (ltb-true _ _ e) | isnt e ↦ omega tests ]
 
--- a cursor cut to l levels, a level put on, and more below
-turns : (c d e r : Cursor) (l n p : ℕ) (path more : Path) → c ≡ cursorAt (c .tree) path → l ≤ length path → length path ≤ 16 → l < 16 → d ≡ cutAt c l → e ≡ pushed d n p → Extends e r more →
-    r ≡ cursorAt (c .tree) (take l path ++ (n, p) ∷ more)
-turns c d e r l n p path more s a b k x y z =
-    let i : d ≡ cursorAt (c .tree) (take l path) = x ∙ ap (λ (g : Cursor). cutAt g l) s ∙ cut-at (c .tree) path l a b in
-    let j : e ≡ cursorAt (c .tree) (take l path ++ (n, p) ∷ []) = y ∙ ap (λ (g : Cursor). pushed g n p) i ∙ push-at (c .tree) (take l path) n p (omega (arith, length-take-le l path a)) in
-    let t : e .tree ≡ c .tree = ap (λ (g : Cursor). g .tree) j in
-    (rw t at (z .run (take l path ++ (n, p) ∷ []) (j ∙ ap (λ (g : ℕ). cursorAt g (take l path ++ (n, p) ∷ [])) (sym t)))) ∙
-    ap (cursorAt (c .tree)) (append-assoc (take l path) ((n, p) ∷ []) more)
+-- the code cuts, puts a level on and goes down
+pub branch-is : (way : Way) (ws : List ℕ) (t : ℕ) (c d e r : Cursor) (l p : ℕ) → d ≡ cutAt c l → e ≡ pushed d (getD (c .nodes) l 0) p →
+    r ≡ extended e (descend way (15 - l) ws t (getD ws (base t (getD (c .nodes) l 0) + 8 + p) 0)) → r ≡ branched way ws t c l p
+unfolding branched
+branch-is way ws t c d e r l p x y z = rw (z, y, x)
 
-pub branched : (way : Way) (ws : List ℕ) (t : ℕ) (c d e r : Cursor) (l p : ℕ) → l < 16 → d ≡ cutAt c l → e ≡ pushed d (getD (c .nodes) l 0) p →
-    Extends e r (descend way (15 - l) ws t (getD ws (base t (getD (c .nodes) l 0) + 8 + p) 0)) → Turned way ws t c l p r
-branched way ws t c d e r l p k x y z = record { run = λ path s a b. turns c d e r l (getD (c .nodes) l 0) p path _ s a b k x y z }
+-- the path of that cursor
+branch-at : (way : Way) (ws : List ℕ) (t : ℕ) (c : Cursor) (l p : ℕ) (path : Path) → c ≡ cursorAt (c .tree) path → l < length path → length path ≤ 16 →
+    branched way ws t c l p ≡ cursorAt (c .tree) (take l path ++ (getD (c .nodes) l 0, p) ∷ descend way (15 - l) ws t (getD ws (base t (getD (c .nodes) l 0) + 8 + p) 0))
+unfolding branched
+branch-at way ws t c l p path s a b =
+    let n = getD (c .nodes) l 0 in
+    let more = descend way (15 - l) ws t (getD ws (base t n + 8 + p) 0) in
+    let k = length-take-le l path (omega arith) in
+    ap (λ (g : Cursor). extended (pushed (cutAt g l) n p) more) s ∙
+    ap (λ (g : Cursor). extended (pushed g n p) more) (cut-at (c .tree) path l (omega arith) b) ∙
+    ap (λ (g : Cursor). extended g more) (push-at (c .tree) (take l path) n p (omega arith)) ∙
+    extend-at (c .tree) (take l path ++ (n, p) ∷ []) more (simp length-append (omega (arith, length-descend way (15 - l) ws t (getD ws (base t n + 8 + p) 0)))) ∙
+    ap (cursorAt (c .tree)) (append-assoc (take l path) ((n, p) ∷ []) more)
 
 module _ (ws : List ℕ) (t : ℕ) (c : Cursor) (y : Ready ws t (c .tree)) (h : 1 ≤ c .size) where
   module _ (p : Pool) (s : Spot) (u : Seat ws t p c s) where
@@ -192,7 +198,7 @@ module _ (ws : List ℕ) (t : ℕ) (c : Cursor) (y : Ready ws t (c .tree)) (h : 
 
   -- a step to the right at level l
   pub next-some : (l : ℕ) (r : Cursor) (b : Branch) → b ≡ rightBranch ws t (c .nodes) (c .places) (c .size - 1) → b ≡ branch.At l → getD (c .places) l 0 < 7 →
-      Turned First ws t c l (getD (c .places) l 0 + 1) r → Steps nextLeaf ws c r
+      r ≡ branched First ws t c l (getD (c .places) l 0 + 1) → Steps nextLeaf ws c r
   next-some l r b e z w q = record {
     to = λ p s o a.
         let u = seat ws t c y h p s o a in
@@ -204,7 +210,7 @@ module _ (ws : List ℕ) (t : ℕ) (c : Cursor) (y : Ready ws t (c .tree)) (h : 
               let v : l < c .size - 1 = rw x (g .above) in
               let m : stepRight ws t (c .nodes) (c .places) (pathS ws t c p s u) l ≡ pathOf (u .L ∷ u .Rs) (on (suc (u .j)) 0) = rw x (g .same) in
               let i = link-word-at ws (base t (getD (c .nodes) l 0)) (getD (c .places) l 0 + 1) (omega arith) in
-              (rw (← i) at (q .run (pathS ws t c p s u) (u .same) (omega (arith, above-leaf p s u, long-path p s u)) (omega (arith, u .laid .few, long-path p s u)))) ∙ ap (cursorAt (c .tree)) (m ∙ sym (on-path p s u (ltb-true _ _ k)))
+              q ∙ (rw (← i) at (branch-at First ws t c l (getD (c .places) l 0 + 1) (pathS ws t c p s u) (u .same) (omega (arith, above-leaf p s u, long-path p s u)) (omega (arith, u .laid .few, long-path p s u)))) ∙ ap (cursorAt (c .tree)) (m ∙ sym (on-path p s u (ltb-true _ _ k)))
         ];
   }
 
@@ -218,7 +224,7 @@ module _ (ws : List ℕ) (t : ℕ) (c : Cursor) (y : Ready ws t (c .tree)) (h : 
 
   -- a step to the left at level l
   pub prev-some : (l : ℕ) (r : Cursor) (b : Branch) → b ≡ leftBranch (c .places) (c .size - 1) → b ≡ branch.At l → getD (c .places) l 0 < 8 →
-      Turned Last ws t c l (getD (c .places) l 0 - 1) r → Steps prevLeaf ws c r
+      r ≡ branched Last ws t c l (getD (c .places) l 0 - 1) → Steps prevLeaf ws c r
   prev-some l r b e z w q = record { to = λ p s o a. go p s (seat ws t c y h p s o a) ((seat ws t c y h p s o a) .j) refl }
     where
       go : (p : Pool) (s : Spot) (u : Seat ws t p c s) (i : ℕ) → u .j ≡ i → r ≡ cursorAt (c .tree) (pathOf (treeOf p (c .tree)) (prevLeaf (leaves (treeOf p (c .tree))) s))
@@ -229,4 +235,4 @@ module _ (ws : List ℕ) (t : ℕ) (c : Cursor) (y : Ready ws t (c .tree)) (h : 
           let v : l < c .size - 1 = rw x (g .above) in
           let m : stepLeft ws t (c .nodes) (c .places) (pathS ws t c p s u) l ≡ pathOf (u .L ∷ u .Rs) (leafEnd (u .L) i) = rw x (g .same) in
           let j = link-word-at ws (base t (getD (c .nodes) l 0)) (getD (c .places) l 0 - 1) (omega arith) in
-          (rw (← j) at (q .run (pathS ws t c p s u) (u .same) (omega (arith, above-leaf p s u, long-path p s u)) (omega (arith, u .laid .few, long-path p s u)))) ∙ ap (cursorAt (c .tree)) (m ∙ sym (back-path p s u i k))
+          q ∙ (rw (← j) at (branch-at Last ws t c l (getD (c .places) l 0 - 1) (pathS ws t c p s u) (u .same) (omega (arith, above-leaf p s u, long-path p s u)) (omega (arith, u .laid .few, long-path p s u)))) ∙ ap (cursorAt (c .tree)) (m ∙ sym (back-path p s u i k))

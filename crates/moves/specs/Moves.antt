@@ -1,12 +1,12 @@
 -- DEFINITIONS. What the moves of a cursor promise: another place in a level, and for every well formed pool whose words these are, the spot that a move comes to
 use mathlib.Core.Path.{_≡_}
-use mathlib.Core.List.{List, _∷_, _++_}
+use mathlib.Core.List.{List}
 use mathlib.Core.Bool.{Bool, _&&_}
 use Prim.Native.Nat.{ℕ, zero, suc, _+_, _-_, _≤_, _<_}
-use lib.ListN.{length, take, getD, set}
+use lib.ListN.{length, getD, set}
 use lib.Dec.{ltb, eqb}
 use Rattle.forest.specs.Sizes.{mostTrees, mostNodes}
-use Rattle.forest.specs.Cursors.{Path, cursorAt, Spot, off, on, leaves, pairAt, leafStart, leafEnd, pathOf, prev, prevPair}
+use Rattle.forest.specs.Cursors.{cursorAt, Spot, off, on, leaves, pairAt, leafStart, leafEnd, pathOf, prev, prevPair}
 use Rattle.forest.specs.declared.Cursor.{Cursor}
 use Rattle.forest.specs.Rows.{Row}
 use Rattle.forest.specs.Pools.{Pool, treeOf}
@@ -14,7 +14,7 @@ use Rattle.forest.specs.Answers.{answerOf, told}
 use Rattle.forest.specs.declared.Moved.{Moved}
 use Rattle.path.specs.declared.Way.{Way}
 use Rattle.path.specs.Ways.{Deep, descend, base}
-use Rattle.path.specs.Levels.{leftBranch, noBranch}
+use Rattle.path.specs.Levels.{pushed, extended, cutAt, leftBranch, noBranch}
 use Rattle.path.specs.Cores.{Of, At}
 
 -- the cursor with another place at level l
@@ -37,10 +37,11 @@ pub record Level (ws : List ℕ) (t : ℕ) (c : Cursor) (l : ℕ) : Type 0 where
   pub trees : t ≤ mostTrees
   pub deep : (f : ℕ) → Deep f ws t (getD (c .nodes) l 0)
 
--- cursor r has the levels of c above l, child `place` of its node at l, and the way down from there
-pub record Turned (way : Way) (ws : List ℕ) (t : ℕ) (c : Cursor) (l place : ℕ) (r : Cursor) : Type 0 where
-  pub run : (path : Path) → c ≡ cursorAt (c .tree) path → l ≤ length path → length path ≤ 16 →
-      r ≡ cursorAt (c .tree) (take l path ++ (getD (c .nodes) l 0, place) ∷ descend way (15 - l) ws t (getD ws (base t (getD (c .nodes) l 0) + 8 + place) 0))
+-- the cursor with the levels of c above l, child `place` of its node at l, and the way down from there
+unfoldable pub branched : Way → List ℕ → ℕ → Cursor → ℕ → ℕ → Cursor
+branched way ws t c l place =
+    extended (pushed (cutAt c l) (getD (c .nodes) l 0) place)
+    (descend way (15 - l) ws t (getD ws (base t (getD (c .nodes) l 0) + 8 + place) 0))
 
 -- from where c stands, d is the cursor of the spot f
 pub record Steps (f : Row → Spot → Spot) (ws : List ℕ) (c d : Cursor) : Type 0 where

@@ -5,9 +5,10 @@ ghost use lib.ListN.{getD};
 ghost use Rattle.forest.specs.Sizes.{mostTrees, mostLevels};
 ghost use Rattle.forest.specs.Cursors.{settle, next, prev};
 ghost use Rattle.path.specs.declared.Way.{Way};
-ghost use Rattle.path.specs.Ways.{base, descend, Deep, Extends};
+ghost use Rattle.path.specs.Ways.{base, descend, Deep};
+ghost use Rattle.path.specs.Levels.{extended};
 ghost use Rattle.path.specs.Cores.{Ready, Standing};
-ghost use Rattle.moves.specs.Moves.{Level, Turned, entered, atFirst, Steps, Seen, Back, nextLeaf, prevLeaf};
+ghost use Rattle.moves.specs.Moves.{Level, branched, entered, atFirst, Steps, Seen, Back, nextLeaf, prevLeaf};
 use forest::Cursor;
 use forest::Moved;
 use forest::Reply;
@@ -19,7 +20,7 @@ use path::Way;
 fn branch_off(ws: &[u32], t: usize, way: Way, c: Cursor, l: usize, place: usize) -> Cursor
     requires { ⌜ Level (now ws) t c l ⌝ }
     requires { ⌜ place + 16 ≤ getD (now ws) (base t (getD (c .nodes) l 0)) 0 ⌝ }
-    ensures { λ r. ⌜ Turned way (now (ws .entry)) t c l place r ⌝ }
+    ensures { λ r. ⌜ r ≡ branched way (now (ws .entry)) t c l place ⌝ }
 {
     let node = c.nodes[l];
     let b = t + 16 * (node as usize) - 14;
@@ -47,7 +48,7 @@ fn next_node(ws: &[u32], t: usize, c: Cursor) -> Cursor
 fn goto_subtree_last(ws: &[u32], t: usize, c: Cursor, node: u32, left: usize) -> Cursor
     requires { ⌜ Deep left (now ws) t node ⌝ }
     requires { ⌜ (t ≤ mostTrees) × (c .size + left ≤ mostLevels) ⌝ }
-    ensures { λ r. ⌜ Extends c r (descend Way.Last left (now (ws .entry)) t node) ⌝ }
+    ensures { λ r. ⌜ r ≡ extended c (descend Way.Last left (now (ws .entry)) t node) ⌝ }
 {
     path::down(ws, t, Way::Last, c, node, left)
 }

@@ -1,7 +1,7 @@
 -- PROOFS. A cursor and its path: a level more, fewer levels, what a level holds
 use mathlib.Core.Path.{_≡_, refl, sym, ap, _∙_}
 use mathlib.Core.List.{List, [], _∷_, _++_, map, append-assoc, append-nil}
-use Prim.Native.Nat.{ℕ, zero, suc, _+_, _-_, _≤_, _<_}
+use Prim.Native.Nat.{ℕ, zero, suc, _+_, _≤_, _<_}
 use native.Mathlib.Omega.{arith}
 use lib.ListN.{length, take, getD, set, length-append, length-map, List·getD-map}
 use lib.Seq.{length-take-le}
@@ -10,8 +10,7 @@ use Rattle.forest.specs.Lists.{pad}
 use Rattle.forest.specs.declared.Cursor.{Cursor}
 use Rattle.forest.specs.Cursors.{Path, cursorAt}
 use Rattle.forest.proofs.ListLaws.{map-take}
-use Rattle.path.specs.Ways.{Extends}
-use Rattle.path.specs.Levels.{pushed, cutAt}
+use Rattle.path.specs.Levels.{pushed, extended, cutAt}
 use Rattle.forest.proofs.CountLaws.{getD-pad}
 
 module _ (f : ℕ × ℕ → ℕ) where
@@ -58,24 +57,14 @@ node-at t path l h = getD-pad mostLevels (map (λ (q : ℕ × ℕ). q .0) path) 
 pub place-at : (t : ℕ) (path : Path) (l : ℕ) → l < 16 → getD ((cursorAt t path) .places) l 0 ≡ (getD path l (0, 0)) .1
 place-at t path l h = getD-pad mostLevels (map (λ (q : ℕ × ℕ). q .1) path) l h ∙ List·getD-map (λ (q : ℕ × ℕ). q .1) path l (0, 0)
 
--- Levels put below
-
-pub extends-none : (c : Cursor) → Extends c c []
-extends-none c = record { run = λ path e. e ∙ ap (cursorAt (c .tree)) (sym (append-nil path)) }
-
-push-run : (c : Cursor) (n p : ℕ) (path : Path) → c .size < 16 → c ≡ cursorAt (c .tree) path → pushed c n p ≡ cursorAt (c .tree) (path ++ (n, p) ∷ [])
-push-run c n p path h e =
-    let s : c .size ≡ length path = ap (λ (d : Cursor). d .size) e in
-    ap (λ (d : Cursor). pushed d n p) e ∙ push-at (c .tree) path n p (omega arith)
-
-pub extends-one : (c : Cursor) (n p : ℕ) → c .size < 16 → Extends c (pushed c n p) ((n, p) ∷ [])
-extends-one c n p h = record { run = λ path e. push-run c n p path h e }
-
-pub extends-more : (c r : Cursor) (n p : ℕ) (more : Path) → c .size < 16 → Extends (pushed c n p) r more → Extends c r ((n, p) ∷ more)
-unfolding pushed
-extends-more c r n p more h x = record {
-  run = λ path e. x .run (path ++ (n, p) ∷ []) (push-run c n p path h e) ∙ ap (cursorAt (c .tree)) (append-assoc path ((n, p) ∷ []) more);
-}
+-- levels put below
+pub extend-at : (t : ℕ) (path more : Path) → length path + length more ≤ 16 → extended (cursorAt t path) more ≡ cursorAt t (path ++ more)
+unfolding extended
+extend-at t path [] h = ap (cursorAt t) (sym (append-nil path))
+extend-at t path (x ∷ more) h =
+    ap (λ (d : Cursor). extended d more) (push-at t path (x .0) (x .1) (omega arith)) ∙
+    extend-at t (path ++ x ∷ []) more (simp length-append (omega arith)) ∙
+    ap (cursorAt t) (append-assoc path (x ∷ []) more)
 
 pub pushed-size : (c : Cursor) (n p : ℕ) → (pushed c n p) .size ≡ c .size + 1
 unfolding pushed

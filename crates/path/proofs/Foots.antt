@@ -1,6 +1,6 @@
 -- PROOFS. The leaf where going down ends, with no cursor made: it is that of the cursor that going down would make
 use mathlib.Core.Path.{_≡_, refl, sym, ap, _∙_}
-use mathlib.Core.List.{List, [], _∷_, _++_}
+use mathlib.Core.List.{List, [], _∷_}
 use Prim.Native.Nat.{ℕ, zero, suc, _+_, _-_, _≤_, _<_}
 use native.Mathlib.Omega.{arith}
 use lib.ListN.{length, getD}
@@ -10,14 +10,14 @@ use Rattle.forest.specs.Cursors.{Path, cursorAt, seek}
 use Rattle.forest.specs.Slices.{KeysRise}
 use Rattle.forest.specs.declared.Cursor.{Cursor}
 use Rattle.forest.proofs.ListLaws.{is, isnt, test}
-use Rattle.path.specs.Ways.{base, block, keysOf, turnOf, landOf, descend, footOf, Extends}
+use Rattle.path.specs.Ways.{base, block, keysOf, turnOf, landOf, descend, footOf}
 use Rattle.path.specs.Cores.{Ready, Goes, Standing, LeafIn, lookIn, Ends, Looks, lookOf}
 use Rattle.path.specs.declared.Look.the-variants.{Nothing}
 use Rattle.path.specs.declared.Way.{Way}
 use Rattle.path.specs.declared.Way.the-variants.{Key}
 use Rattle.path.proofs.Steps.{first-word, link-word-at}
 use Rattle.path.proofs.CursorWords.{node-at, place-at}
-use Rattle.path.proofs.Roots.{goes-seek, goes-empty}
+use Rattle.path.proofs.Roots.{down-path, goes-seek, goes-empty}
 use Rattle.path.proofs.Seats.{Leafy, leafy, leaf-in, seat, looked, off-spot}
 use Rattle.path.proofs.Made.{fits-seek, gone-standing}
 
@@ -89,15 +89,8 @@ module _ (ws : List ℕ) (t tree : ℕ) (y : Ready ws t tree) (k : ℕ) where
     abbrev made : Cursor
     made = cursorAt tree way-down
 
-    made-extends : Extends (cursorAt tree []) made way-down
-    made-extends = record { run = go }
-      where
-        go : (path : Path) → cursorAt tree [] ≡ cursorAt tree path → cursorAt tree way-down ≡ cursorAt tree (path ++ way-down)
-        go [] e = refl
-        go (q ∷ path) e = absurd (let s : 0 ≡ suc (length path) = ap (λ (c : Cursor). c .size) e in omega arith)
-
     made-goes : Goes (seek k) ws tree made
-    made-goes = goes-seek ws t tree y k (cursorAt tree []) made z refl made-extends
+    made-goes = goes-seek ws t tree y k (cursorAt tree []) made z refl (sym (down-path ws t tree y (Key k)))
 
     made-ready : Ready ws t (made .tree)
     made-ready = y

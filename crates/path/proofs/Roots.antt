@@ -11,10 +11,13 @@ use Rattle.forest.specs.Cursors.{Spot, off, leaves, first, seek, prev, pathOf, 
 use Rattle.forest.specs.declared.Cursor.{Cursor}
 use Rattle.forest.proofs.WordLaws.{first-word, root-word}
 use Rattle.forest.proofs.PromiseLaws.{sound-T, sound-length}
-use Rattle.path.specs.Ways.{descend, Deep, Extends}
+use Rattle.path.specs.Ways.{descend, Deep}
+use Rattle.path.specs.Levels.{extended}
 use Rattle.path.specs.Cores.{Ready, Of, Goes}
 use Rattle.path.specs.declared.Way.{Way}
 use Rattle.path.specs.declared.Way.the-variants.{Key, First, Last}
+use Rattle.path.proofs.CursorWords.{extend-at}
+use Rattle.path.proofs.Steps.{length-descend}
 use Rattle.path.proofs.Laid.{Laid, laid, tree-deep, deep-lies}
 use Rattle.path.proofs.Downward.{seek-path, first-path, last-path}
 
@@ -53,6 +56,10 @@ module _ (ws : List ℕ) (t tree : ℕ) (y : Ready ws t tree) where
       go [] e = absurd (z (root-is (y .sound .pool) the-pool ∙ ap root e))
       go (L ∷ Rs) e = rw (root-is (y .sound .pool) the-pool, e) (tree-deep ws t L Rs (lies-there (y .sound .pool) the-pool L Rs e) f)
 
+  -- the path from the root, below no levels
+  pub down-path : (way : Way) → extended (cursorAt tree []) (descend way 16 ws t (getD ws (1 + tree) 0)) ≡ cursorAt tree (descend way 16 ws t (getD ws (1 + tree) 0))
+  down-path way = extend-at tree [] (descend way 16 ws t (getD ws (1 + tree) 0)) (omega (arith, length-descend way 16 ws t (getD ws (1 + tree) 0)))
+
   -- a spot of each leaf row, off the end in the empty tree
   module _ (f : Row → Spot) (none : f [] ≡ off) where
     pub goes-empty : (r : Cursor) → getD ws (1 + tree) 0 ≡ 0 → r ≡ cursorAt tree [] → Goes f ws tree r
@@ -64,7 +71,7 @@ module _ (ws : List ℕ) (t tree : ℕ) (y : Ready ws t tree) where
 
     pub goes-down : (way : Way) (c r : Cursor) → (getD ws (1 + tree) 0 ≡ 0 → ⊥) →
         ((L : Row) (Rs : List Row) → Laid ws t L Rs → descend way (length Rs + suc (15 - length Rs)) ws t (rootAbove L Rs) ≡ pathOf (L ∷ Rs) (f L)) →
-        c ≡ cursorAt tree [] → Extends c r (descend way 16 ws t (getD ws (1 + tree) 0)) → Goes f ws tree r
+        c ≡ cursorAt tree [] → r ≡ extended c (descend way 16 ws t (getD ws (1 + tree) 0)) → Goes f ws tree r
     goes-down way c r z d e x = record { to = λ p o. go p o (treeOf p tree) refl }
       where
         go : (p : Pool) → Of ws p → (u : Tree) → treeOf p tree ≡ u → r ≡ cursorAt tree (pathOf (treeOf p tree) (f (leaves (treeOf p tree))))
@@ -72,16 +79,15 @@ module _ (ws : List ℕ) (t tree : ℕ) (y : Ready ws t tree) where
         go p o (L ∷ Rs) q =
             let l = lies-there p o L Rs q in
             let k : length Rs + suc (15 - length Rs) ≡ 16 = omega (arith, l .few) in
-            let s : c .tree ≡ tree = ap (λ (b : Cursor). b .tree) e in
             let g = rw k at (d L Rs l) in
             let path-is : descend way 16 ws t (getD ws (1 + tree) 0) ≡ pathOf (treeOf p tree) (f (leaves (treeOf p tree))) = rw (root-is p o, q) g in
-            (rw s at (x .run [] (e ∙ ap (λ (b : ℕ). cursorAt b []) (sym s)))) ∙ ap (cursorAt tree) path-is
+            x ∙ ap (λ (b : Cursor). extended b (descend way 16 ws t (getD ws (1 + tree) 0))) e ∙ down-path way ∙ ap (cursorAt tree) path-is
 
-  pub goes-seek : (k : ℕ) (c r : Cursor) → (getD ws (1 + tree) 0 ≡ 0 → ⊥) → c ≡ cursorAt tree [] → Extends c r (descend (Key k) 16 ws t (getD ws (1 + tree) 0)) → Goes (seek k) ws tree r
+  pub goes-seek : (k : ℕ) (c r : Cursor) → (getD ws (1 + tree) 0 ≡ 0 → ⊥) → c ≡ cursorAt tree [] → r ≡ extended c (descend (Key k) 16 ws t (getD ws (1 + tree) 0)) → Goes (seek k) ws tree r
   goes-seek k c r z e x = goes-down (seek k) refl (Key k) c r z (λ L Rs l. seek-path ws t k (15 - length Rs) L Rs l) e x
 
-  pub goes-first : (c r : Cursor) → (getD ws (1 + tree) 0 ≡ 0 → ⊥) → c ≡ cursorAt tree [] → Extends c r (descend First 16 ws t (getD ws (1 + tree) 0)) → Goes first ws tree r
+  pub goes-first : (c r : Cursor) → (getD ws (1 + tree) 0 ≡ 0 → ⊥) → c ≡ cursorAt tree [] → r ≡ extended c (descend First 16 ws t (getD ws (1 + tree) 0)) → Goes first ws tree r
   goes-first c r z e x = goes-down first refl First c r z (λ L Rs l. first-path ws t (15 - length Rs) L Rs l) e x
 
-  pub goes-last : (c r : Cursor) → (getD ws (1 + tree) 0 ≡ 0 → ⊥) → c ≡ cursorAt tree [] → Extends c r (descend Last 16 ws t (getD ws (1 + tree) 0)) → Goes (λ L. prev L off) ws tree r
+  pub goes-last : (c r : Cursor) → (getD ws (1 + tree) 0 ≡ 0 → ⊥) → c ≡ cursorAt tree [] → r ≡ extended c (descend Last 16 ws t (getD ws (1 + tree) 0)) → Goes (λ L. prev L off) ws tree r
   goes-last c r z e x = goes-down (λ L. prev L off) refl Last c r z (λ L Rs l. last-path ws t (15 - length Rs) L Rs l) e x

@@ -5,13 +5,15 @@ use Prim.Native.Nat.{ℕ, zero, suc, _+_, _-_, _≤_, _<_}
 use native.Mathlib.Omega.{arith}
 use lib.ListN.{length, take, drop, getD, length-take, length-drop}
 use lib.Seq.{take-take, length-take-le}
+use lib.Dec.{leb}
 use borrow.Author.Tests.{lt-ltb, le-ltb, le-leb, lt-leb}
 use Rattle.forest.specs.Slices.{KeysRise, searched}
 use Rattle.forest.specs.declared.Cursor.{Cursor}
 use Rattle.forest.specs.declared.Found.{Found}
 use Rattle.forest.specs.declared.Found.the-variants.{Here, Absent}
-use Rattle.path.specs.Ways.{base, blockAt, block, keysOf, turnOf, landOf, descend, Lies, Deep, Extends}
-use Rattle.path.specs.Levels.{pushed}
+use Rattle.forest.proofs.ListLaws.{is, isnt, test}
+use Rattle.path.specs.Ways.{base, blockAt, block, keysOf, turnOf, landOf, descend, Lies, Deep}
+use Rattle.path.specs.Levels.{pushed, extended}
 use Rattle.path.specs.Cores.{lookIn}
 use Rattle.path.specs.declared.Look.the-variants.{Pair, Nothing}
 use Rattle.path.specs.declared.Way.{Way}
@@ -21,7 +23,6 @@ use Rattle.forest.proofs.Slices.{at-block}
 use Rattle.path.proofs.NodeWords.{block-keys}
 use Rattle.path.proofs.Searching.{Stops, stops-here, stops-absent}
 use Rattle.path.proofs.Laid.{deep-lies, deep-child}
-use Rattle.path.proofs.CursorWords.{extends-none, extends-one, extends-more}
 
 -- a value or a child, a key
 pub link-word-at : (ws : List ℕ) (b i : ℕ) → i < 8 → getD (blockAt ws b) (8 + i) 0 ≡ getD ws (b + 8 + i) 0
@@ -134,25 +135,30 @@ child-deep f ws t n i z d a b =
     let q = inner-bounds ws t n (lies-of f ws t n z d) a in
     rw (← link-word-at ws (base t n) i (omega arith)) (deep-child ws t f n i (omega arith) d (rw first-word a) (rw first-word b))
 
+-- going down takes no more levels than it may
+pub length-descend : (way : Way) (f : ℕ) (ws : List ℕ) (t n : ℕ) → length (descend way f ws t n) ≤ f
+unfolding descend
+length-descend way zero ws t n = omega arith
+length-descend way (suc f) ws t n = elim (test (leb 32 (getD (block ws t n) 0 0))) [
+  | is a ↦ rw a (omega arith)
+  | isnt a ↦ rw a (omega (arith, length-descend way f ws t (getD (block ws t n) (8 + turnOf way (block ws t n)) 0)))
+]
+
 -- down
 module _ (way : Way) (ws : List ℕ) (t : ℕ) (c : Cursor) (n : ℕ) where
-  pub down-none : (f : ℕ) → f ≡ 0 → Extends c c (descend way f ws t n)
-  unfolding descend
-  down-none f e = rw e (extends-none c)
+  pub down-none : (f : ℕ) → f ≡ 0 → extended c (descend way f ws t n) ≡ c
+  unfolding descend extended
+  down-none f e = rw e
 
-  pub down-leaf : (f : ℕ) (d : Cursor) (i : ℕ) → (f ≡ 0 → ⊥) → c .size < 16 → 32 ≤ getD ws (base t n) 0 → i ≡ landOf way (block ws t n) → d ≡ pushed c n i →
-      Extends c d (descend way f ws t n)
-  unfolding descend
-  down-leaf zero d i z s h u e = absurd (z refl)
-  down-leaf (suc f) d i z s h u e =
-      let b = le-leb 32 (getD (block ws t n) 0 0) (rw first-word h) in
-      rw (b, e, ← u) (extends-one c n i s)
+  pub down-leaf : (f i : ℕ) → (f ≡ 0 → ⊥) → 32 ≤ getD ws (base t n) 0 → i ≡ landOf way (block ws t n) → extended c (descend way f ws t n) ≡ pushed c n i
+  unfolding descend extended
+  down-leaf zero i z h u = absurd (z refl)
+  down-leaf (suc f) i z h u = rw (le-leb 32 (getD (block ws t n) 0 0) (rw first-word h), ← u)
 
-  pub down-inner : (f : ℕ) (d r : Cursor) (i : ℕ) → (f ≡ 0 → ⊥) → c .size < 16 → getD ws (base t n) 0 < 32 → i < 8 → i ≡ turnOf way (block ws t n) → d ≡ pushed c n i →
-      Extends d r (descend way (f - 1) ws t (getD ws (base t n + 8 + i) 0)) → Extends c r (descend way f ws t n)
-  unfolding descend
-  down-inner zero d r i z s h k u e x = absurd (z refl)
-  down-inner (suc f) d r i z s h k u e x =
-      let b = lt-leb 32 (getD (block ws t n) 0 0) (rw first-word h) in
+  pub down-inner : (f i : ℕ) → (f ≡ 0 → ⊥) → getD ws (base t n) 0 < 32 → i < 8 → i ≡ turnOf way (block ws t n) →
+      extended c (descend way f ws t n) ≡ extended (pushed c n i) (descend way (f - 1) ws t (getD ws (base t n + 8 + i) 0))
+  unfolding descend extended
+  down-inner zero i z h k u = absurd (z refl)
+  down-inner (suc f) i z h k u =
       let y : suc f - 1 ≡ f = omega arith in
-      rw (b, ← u) (extends-more c r n i (descend way f ws t (getD (block ws t n) (8 + i) 0)) s (rw link-word-at (rw (y, e) at x)))
+      rw (lt-leb 32 (getD (block ws t n) 0 0) (rw first-word h), ← u, link-word-at ws (base t n) i k, y)

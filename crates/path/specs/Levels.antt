@@ -1,11 +1,12 @@
 -- DEFINITIONS. The levels of a cursor in the words: one more, fewer, where a path branches off
-use mathlib.Core.List.{List}
+use mathlib.Core.List.{List, [], _∷_}
 use mathlib.Core.Bool.{Bool, true, false, cond}
 use Prim.Native.Nat.{ℕ, zero, suc, _+_, _≤_, _<_}
 use lib.ListN.{length, take, getD, set}
 use lib.Dec.{ltb, eqb}
 use Rattle.forest.specs.Sizes.{mostTrees, mostNodes, mostLevels}
 use Rattle.forest.specs.Lists.{pad}
+use Rattle.forest.specs.Cursors.{Path}
 use Rattle.forest.specs.declared.Cursor.{Cursor}
 use Rattle.path.specs.Ways.{base, block}
 use Rattle.path.specs.declared.Branch.{Branch}
@@ -19,6 +20,11 @@ pushed c n p = record {
   nodes = set (c .nodes) (c .size) n;
   places = set (c .places) (c .size) p;
 }
+
+-- the cursor with the levels of a path below its own
+unfoldable pub extended : Cursor → Path → Cursor
+extended c [] = c
+extended c (x ∷ more) = extended (pushed c (x .0) (x .1)) more
 
 -- the cursor with its first l levels alone
 unfoldable pub cutAt : Cursor → ℕ → Cursor

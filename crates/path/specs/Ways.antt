@@ -1,6 +1,5 @@
 -- DEFINITIONS. Going down in the words, from a node to a leaf: by a key, by first children, by last children
-use mathlib.Core.Path.{_≡_}
-use mathlib.Core.List.{List, [], _∷_, _++_}
+use mathlib.Core.List.{List, [], _∷_}
 use mathlib.Core.Bool.{cond}
 use Prim.Native.Nat.{ℕ, zero, suc, _+_, _-_, _≤_, _<_}
 use lib.ListN.{length, take, drop, getD}
@@ -11,8 +10,7 @@ use Rattle.forest.specs.Lists.{upto}
 unfoldable pub use Rattle.forest.specs.Slices.{blockAt}
 pub use Rattle.forest.specs.Slices.{block}
 use Rattle.forest.specs.Slices.{KeysRise, keyPlace}
-use Rattle.forest.specs.Cursors.{Path, cursorAt}
-use Rattle.forest.specs.declared.Cursor.{Cursor}
+use Rattle.forest.specs.Cursors.{Path}
 use Rattle.path.specs.declared.Way.{Way}
 use Rattle.path.specs.declared.Way.the-variants.{Key, First, Last}
 
@@ -64,7 +62,3 @@ Deep zero ws t n = Unit {0}
 Deep (suc f) ws t n =
     Lies ws t n ×
     ((i : ℕ) → getD (block ws t n) 0 0 < 32 → i ≤ getD (block ws t n) 0 0 - 16 → Deep f ws t (getD (block ws t n) (8 + i) 0))
-
--- cursor r is cursor c with more levels below
-pub record Extends (c r : Cursor) (more : Path) : Type 0 where
-  pub run : (path : Path) → c ≡ cursorAt (c .tree) path → r ≡ cursorAt (c .tree) (path ++ more)

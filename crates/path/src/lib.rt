@@ -7,8 +7,8 @@ ghost use Rattle.forest.specs.Sizes.{mostTrees, mostLevels};
 ghost use Rattle.forest.specs.Lists.{pad};
 ghost use Rattle.forest.specs.Slices.{KeysRise};
 ghost use Rattle.forest.specs.Cursors.{cursorAt, first, seek};
-ghost use Rattle.path.specs.Ways.{blockAt, keysOf, turnOf, landOf, descend, footOf, Deep, Extends};
-ghost use Rattle.path.specs.Levels.{pushed, cutAt, rightBranch, leftBranch, Safe};
+ghost use Rattle.path.specs.Ways.{blockAt, keysOf, turnOf, landOf, descend, footOf, Deep};
+ghost use Rattle.path.specs.Levels.{pushed, extended, cutAt, rightBranch, leftBranch, Safe};
 ghost use Rattle.path.specs.Cores.{Ready, Standing, Goes, Sees, LeafIn, lookIn, Ends, Looks};
 use forest::Cursor;
 use forest::Found;
@@ -136,7 +136,7 @@ fn land(ws: &[u32], b: usize, way: Way) -> usize
 pub fn down(ws: &[u32], t: usize, way: Way, c: Cursor, node: u32, left: usize) -> Cursor
     requires { ⌜ Deep left (now ws) t node ⌝ }
     requires { ⌜ (t ≤ mostTrees) × (c .size + left ≤ mostLevels) ⌝ }
-    ensures { λ r. ⌜ Extends c r (descend way left (now (ws .entry)) t node) ⌝ }
+    ensures { λ r. ⌜ r ≡ extended c (descend way left (now (ws .entry)) t node) ⌝ }
 {
     let mut out = c;
     let mut n = node;

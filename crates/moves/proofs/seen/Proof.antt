@@ -1,4 +1,3 @@
-use Prim.Native.Nat.{_-_}
 use Rattle.moves.proofs.Looking.{seen-pair, seen-none}
 use borrow.Author.Needs.{needs}
 use Rattle.moves.proofs.seen.Statement.{statement}

@@ -1,5 +1,3 @@
-use Prim.Native.Nat.{_-_}
-use native.Mathlib.Omega.{arith}
 use Rattle.path.proofs.Steps.{lent-asks, lands-here, lands-absent, lands-first, lands-last}
 use borrow.Author.Needs.{needs}
 use Rattle.path.proofs.land.Statement.{statement}

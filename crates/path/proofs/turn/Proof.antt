@@ -1,4 +1,3 @@
-use Prim.Native.Nat.{_-_}
 use native.Mathlib.Omega.{arith}
 use Rattle.path.proofs.Steps.{lent-asks, turns-here, turns-absent, turns-first, turns-last}
 use borrow.Author.Needs.{needs}
