@@ -18,13 +18,13 @@ use Rattle.path.specs.Levels.{rightBranch, leftBranch}
 use Rattle.path.specs.declared.Branch.the-variants.{At, Nothing}
 use Rattle.path.specs.declared.Way.the-variants.{First, Last}
 use Rattle.path.proofs.NodeWords.{turn-last, turn-first, Grouped, grouped-at, sum-all, group-end}
-use Rattle.path.proofs.Laid.{RowIn, RowsIn, size-bounds, Stood, stood, children, child-at, parent-in, offset-in, inner-first}
+use Rattle.path.proofs.Laid.{RowIn, RowsIn, size-bounds, ParentRow, parent-row, children, child-at, parent-in, offset-in, inner-first}
 use Rattle.path.proofs.Downward.{step-to}
 use Rattle.path.proofs.Seats.{up-at, up-take}
 use Rattle.forest.proofs.CursorCalls.{take-suc}
 
 -- the next position and the one before, in groups that are not empty
-module _ (R S : Row) (s : Stood R S) where
+module _ (R S : Row) (s : ParentRow R S) where
   some-at : (q : ℕ) → q < length S → 1 ≤ getD (sizes S) q 0
   some-at q h = rw (← length-items S q) (size-bounds 4 8 S q (omega arith) (s .filled) h .0)
 
@@ -121,8 +121,8 @@ module _ (ws : List ℕ) (t : ℕ) (ns ps : List ℕ) where
   -- the level of S, above that of R
   module _ (R S : Row) (Ss : List Row) (w : Tower R (S ∷ Ss)) (r : RowIn innerWords ws t S) (i : ℕ) (h : i < length R) (below : Path) (few : length Ss < 16)
       (a : Agrees (pathUp i (S ∷ Ss) below)) where
-    abbrev st : Stood R S
-    st = stood R S Ss w
+    abbrev st : ParentRow R S
+    st = parent-row R S Ss w
 
     own-node : getD ns (length Ss) 0 ≡ getD (nums S) (parent (sizes S) i) 0
     own-node = a .node (length Ss) few ∙ ap (λ (q : ℕ × ℕ). q .0) (up-at (parent (sizes S) i) Ss (getD (nums S) (parent (sizes S) i) 0, offset (sizes S) i) below)
@@ -186,7 +186,7 @@ module _ (ws : List ℕ) (t : ℕ) (ns ps : List ℕ) where
       Right (length Rs) (pathUp i Rs below) (pathUp (suc i) Rs (descend First f ws t (getD (nums R) (suc i) 0)))
   right-some R [] i f below w r z few a h = absurd (omega arith)
   right-some R (S ∷ Ss) i f below w r z few a h =
-      let s = stood R S Ss w in
+      let s = parent-row R S Ss w in
       elim (test (ltb (suc (offset (sizes S) i)) (getD (sizes S) (parent (sizes S) i) 0))) [
         | is c ↦
             record {
@@ -215,7 +215,7 @@ module _ (ws : List ℕ) (t : ℕ) (ns ps : List ℕ) where
   unfolding rightBranch
   right-none R [] i below w r few a h = refl
   right-none R (S ∷ Ss) i below w r few a h =
-      let l = last-group R S (stood R S Ss w) i h in
+      let l = last-group R S (parent-row R S Ss w) i h in
       branch-above R S Ss w (r .0) i (omega arith) below (omega arith) a (l .0) ∙
       right-none S Ss (parent (sizes S) i) ((getD (nums S) (parent (sizes S) i) 0, offset (sizes S) i) ∷ below) (w .3) (r .1) (omega arith) a (l .1)
 
@@ -224,7 +224,7 @@ module _ (ws : List ℕ) (t : ℕ) (ns ps : List ℕ) where
       Left (length Rs) (pathUp i Rs below) (pathUp k Rs (descend Last f ws t (getD (nums R) k 0)))
   left-some R [] i k f below w r z few a e h = absurd (omega arith)
   left-some R (S ∷ Ss) i k f below w r z few a e h =
-      let s = stood R S Ss w in
+      let s = parent-row R S Ss w in
       elim (test (eqb (offset (sizes S) i) 0)) [
         | isnt c ↦
             let o : 1 ≤ offset (sizes S) i = omega tests in
@@ -257,6 +257,6 @@ module _ (ws : List ℕ) (t : ℕ) (ns ps : List ℕ) where
   unfolding leftBranch
   left-none R [] i below w r few a h = refl
   left-none R (S ∷ Ss) i below w r few a h =
-      let g = first-group R S (stood R S Ss w) (tower-some S Ss (w .3)) in
+      let g = first-group R S (parent-row R S Ss w) (tower-some S Ss (w .3)) in
       left-above R S Ss w (r .0) i (omega (arith, tower-some R (S ∷ Ss) w)) below (omega arith) a (rw h (g .place)) ∙
       left-none S Ss (parent (sizes S) i) ((getD (nums S) (parent (sizes S) i) 0, offset (sizes S) i) ∷ below) (w .3) (r .1) (omega arith) a (rw h (g .group))

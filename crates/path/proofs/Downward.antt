@@ -21,7 +21,7 @@ use Rattle.path.specs.Ways.{block, turnOf, landOf, descend}
 use Rattle.path.specs.declared.Way.{Way}
 use Rattle.path.specs.declared.Way.the-variants.{Key, First, Last}
 use Rattle.path.proofs.NodeWords.{turn-key, turn-last, turn-first, land-key, land-last, land-first, Grouped, grouped-at}
-use Rattle.path.proofs.Laid.{RowIn, RowsIn, Laid, size-bounds, Stood, stood, children, child-at, parent-in, offset-in, leaf-first, inner-first}
+use Rattle.path.proofs.Laid.{RowIn, RowsIn, Laid, size-bounds, ParentRow, parent-row, children, child-at, parent-in, offset-in, leaf-first, inner-first}
 
 module _ (ws : List ℕ) (t : ℕ) where
   -- one step
@@ -41,7 +41,7 @@ module _ (ws : List ℕ) (t : ℕ) where
       rw (lt-leb 32 (getD (block ws t (getD (nums S) q 0)) 0 0) (omega arith), r .are q h)
 
   -- a way that turns to child o of node q goes on at that child
-  pub step-to : (way : Way) (f : ℕ) (R S : Row) → Stood R S → RowIn innerWords ws t S → (q o i : ℕ) → q < length S → o < getD (sizes S) q 0 →
+  pub step-to : (way : Way) (f : ℕ) (R S : Row) → ParentRow R S → RowIn innerWords ws t S → (q o i : ℕ) → q < length S → o < getD (sizes S) q 0 →
       i ≡ sum (take q (sizes S)) + o → turnOf way (innerWords (itemsAt S q)) ≡ o →
       descend way (suc f) ws t (getD (nums S) q 0) ≡ (getD (nums S) q 0, o) ∷ descend way f ws t (getD (nums R) i 0)
   step-to way f R S s r q o i h k e u =
@@ -61,7 +61,7 @@ module _ (ws : List ℕ) (t : ℕ) where
       let y : i ≡ 0 = omega arith in
       rw z (ap (λ (x : ℕ). descend way f ws t (getD (nums R) x 0)) (sym y) ∙ e)
   climb way R (S ∷ Ss) i f below w r h k e =
-      let s = stood R S Ss w in
+      let s = parent-row R S Ss w in
       let z : suc (length Ss) + f ≡ length Ss + suc f = omega arith in
       let p = parent-start (sizes S) i (omega (arith, children R S s)) in
       rw z (climb way S Ss (parent (sizes S) i) (suc f) ((getD (nums S) (parent (sizes S) i) 0, offset (sizes S) i) ∷ below) (w .3) (r .1) (parent-in R S s i h) (k .1)
@@ -72,7 +72,7 @@ module _ (ws : List ℕ) (t : ℕ) where
   picks-key : (k : ℕ) (R : Row) (Rs : List Row) → Tower R Rs → Downs k R Rs → Picks (Key k) Rs (leafOf k R)
   picks-key k R [] w d = tt
   picks-key k R (S ∷ Ss) w d =
-      let g : leafOf k S < length S = rw (← d .0 .node-of) (parent-in R S (stood R S Ss w) (leafOf k R) (leaf-lt k R (S ∷ Ss) w)) in
+      let g : leafOf k S < length S = rw (← d .0 .node-of) (parent-in R S (parent-row R S Ss w) (leafOf k R) (leaf-lt k R (S ∷ Ss) w)) in
       let b = size-bounds 4 8 S (leafOf k S) (omega arith) (w .2) g in
       rw (d .0 .node-of) (turn-key k (itemsAt S (leafOf k S)) (b .0) (b .1) ∙ sym (d .0 .place-of), picks-key k S Ss (w .3) (d .1))
     where
@@ -109,7 +109,7 @@ module _ (ws : List ℕ) (t : ℕ) where
       (leaf-step First f L (l .leaf) 0 h ∙ ap (λ (x : ℕ). (getD (nums L) 0 0, x) ∷ []) (land-first (leafWords (itemsAt L 0)))))
 
   -- by last children
-  pub last-group : (R S : Row) → Stood R S → 1 ≤ length S → Grouped (sizes S) (length S - 1) (getD (sizes S) (length S - 1) 0 - 1) (length R - 1)
+  pub last-group : (R S : Row) → ParentRow R S → 1 ≤ length S → Grouped (sizes S) (length S - 1) (getD (sizes S) (length S - 1) 0 - 1) (length R - 1)
   last-group R S s h =
       let b = size-bounds 4 8 S (length S - 1) (omega arith) (s .filled) (omega arith) in
       let l = length-items S (length S - 1) in
@@ -131,7 +131,7 @@ module _ (ws : List ℕ) (t : ℕ) where
   picks-last R [] w = tt
   picks-last R (S ∷ Ss) w =
       let h = tower-some S Ss (w .3) in
-      let z = last-group R S (stood R S Ss w) h in
+      let z = last-group R S (parent-row R S Ss w) h in
       rw (z .group) (turn-last (itemsAt S (length S - 1)) ∙ ap (_- 1) (length-items S (length S - 1)) ∙ sym (z .place), picks-last S Ss (w .3))
 
   pub last-path : (f : ℕ) (L : Row) (Rs : List Row) → Laid ws t L Rs →

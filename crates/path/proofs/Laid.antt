@@ -104,16 +104,17 @@ pub size-bounds : (lo hi : ℕ) (R : Row) (j : ℕ) → 1 ≤ lo → Fill lo hi 
 size-bounds lo hi R j a f h =
     (rw length-items (none-at R j (none-empty lo hi R a f) h), rw length-items (fill-at lo hi (sizes R) j f))
 
--- One level: S stands on R
+-- One level
 
-pub record Stood (R S : Row) : Type 0 where
+-- row S has the parents of the nodes of row R
+pub record ParentRow (R S : Row) : Type 0 where
   pub line-is : joined S ≡ line R
   pub filled : Fill 4 8 (sizes S)
 
-pub stood : (R S : Row) (Ss : List Row) → Tower R (S ∷ Ss) → Stood R S
-stood R S Ss w = record { line-is = w .1; filled = w .2 }
+pub parent-row : (R S : Row) (Ss : List Row) → Tower R (S ∷ Ss) → ParentRow R S
+parent-row R S Ss w = record { line-is = w .1; filled = w .2 }
 
-module _ (R S : Row) (s : Stood R S) where
+module _ (R S : Row) (s : ParentRow R S) where
   pub children : sum (sizes S) ≡ length R
   children = sum-sizes S ∙ ap length (s .line-is) ∙ length-line R
 
@@ -137,7 +138,7 @@ module _ (R S : Row) (s : Stood R S) where
       ap (λ (x : ℕ). getD (nums R) x 0) (parent-start (sizes S) i (omega (arith, children)))
 
 -- position o of node q is one of the row below
-pub inside : (R S : Row) → Stood R S → (q i : ℕ) → q < length S → i < getD (sizes S) q 0 → sum (take q (sizes S)) + i < length R
+pub inside : (R S : Row) → ParentRow R S → (q i : ℕ) → q < length S → i < getD (sizes S) q 0 → sum (take q (sizes S)) + i < length R
 inside R S s q i h k = omega (arith, children R S s, group-end (sizes S) q)
 
 -- keys rise in a row, and no node is empty
@@ -148,7 +149,7 @@ pub record Rises (R : Row) : Type 0 where
 pub leaves-rise : (L : Row) (Rs : List Row) → Good leafLeast leafCap (L ∷ Rs) → Rises L
 leaves-rise L Rs g = record { some = none-empty leafLeast leafCap L (omega arith) (g .1); keys = g .0 }
 
-pub rises-up : (R S : Row) → Stood R S → Rises R → Rises S
+pub rises-up : (R S : Row) → ParentRow R S → Rises R → Rises S
 rises-up R S s x = record { some = none-empty 4 8 S (omega arith) (s .filled); keys = rw (s .line-is) (line-rising R (x .some) (x .keys)) }
 
 -- Every way down stays in the words
@@ -182,7 +183,7 @@ module _ (ws : List ℕ) (t : ℕ) where
         λ i y z. absurd (omega arith),
       )
 
-  pub inner-deep : (R S : Row) → Stood R S → RowIn innerWords ws t S → Rises S → AllDeep R → AllDeep S
+  pub inner-deep : (R S : Row) → ParentRow R S → RowIn innerWords ws t S → Rises S → AllDeep R → AllDeep S
   unfolding Deep
   inner-deep R S s r v d zero q h = tt
   inner-deep R S s r v d (suc f) q h =
@@ -221,8 +222,8 @@ module _ (ws : List ℕ) (t : ℕ) where
   pub root-deep : (R : Row) (Rs : List Row) → Tower R Rs → RowsIn ws t Rs → Rises R → AllDeep R → (f : ℕ) → Deep f ws t (rootAbove R Rs)
   root-deep R [] w r x d f = d f 0 (omega arith)
   root-deep R (S ∷ Ss) w r x d f =
-      let v = rises-up R S (stood R S Ss w) x in
-      root-deep S Ss (w .3) (r .1) v (inner-deep R S (stood R S Ss w) (r .0) v d) f
+      let v = rises-up R S (parent-row R S Ss w) x in
+      root-deep S Ss (w .3) (r .1) v (inner-deep R S (parent-row R S Ss w) (r .0) v d) f
 
   pub tree-deep : (L : Row) (Rs : List Row) → Laid ws t L Rs → (f : ℕ) → Deep f ws t (rootAbove L Rs)
   tree-deep L Rs l f = root-deep L Rs (l .good .2) (l .inner) (leaves-rise L Rs (l .good)) (leaf-deep L (l .leaf) (l .good .1) (leaves-rise L Rs (l .good))) f

@@ -19,7 +19,7 @@ use Rattle.forest.specs.Slices.{KeysRise}
 use Rattle.path.specs.Ways.{base, block, blockAt, keysOf, Deep}
 use Rattle.path.specs.Cores.{Ready, Of, At, Standing, LeafIn, lookIn, lookOf}
 use Rattle.path.proofs.NodeWords.{pair-words}
-use Rattle.path.proofs.Laid.{Laid, RowIn, RowsIn, Rises, leaves-rise, rises-up, AllDeep, leaf-deep, inner-deep, size-bounds, Stood, stood, parent-in, offset-in, leaf-first, inner-first}
+use Rattle.path.proofs.Laid.{Laid, RowIn, RowsIn, Rises, leaves-rise, rises-up, AllDeep, leaf-deep, inner-deep, size-bounds, ParentRow, parent-row, parent-in, offset-in, leaf-first, inner-first}
 use Rattle.path.proofs.CursorWords.{node-at, place-at}
 use Rattle.path.proofs.Steps.{first-word, key-word-at, link-word-at, lies-of}
 use Rattle.path.proofs.Roots.{lies-there, the-pool}
@@ -57,7 +57,7 @@ pub record Inner (ws : List ℕ) (t : ℕ) (q : ℕ × ℕ) : Type 0 where
   pub place : q .1 + 16 ≤ getD (block ws t (q .0)) 0 0
 
 module _ (ws : List ℕ) (t : ℕ) where
-  inner-level : (R S : Row) → Stood R S → RowIn innerWords ws t S → Rises S → AllDeep ws t R → (i : ℕ) → i < length R → Inner ws t (getD (nums S) (parent (sizes S) i) 0, offset (sizes S) i)
+  inner-level : (R S : Row) → ParentRow R S → RowIn innerWords ws t S → Rises S → AllDeep ws t R → (i : ℕ) → i < length R → Inner ws t (getD (nums S) (parent (sizes S) i) 0, offset (sizes S) i)
   inner-level R S s r v d i h =
       let q = parent (sizes S) i in
       let k = parent-in R S s i h in
@@ -71,7 +71,7 @@ module _ (ws : List ℕ) (t : ℕ) where
       Inner ws t (getD (pathUp i Rs below) l (0, 0))
   up-inner R [] i below w r v d h l k = absurd (omega arith)
   up-inner R (S ∷ Ss) i below w r v d h l k =
-      let s = stood R S Ss w in
+      let s = parent-row R S Ss w in
       let u = rises-up R S s v in
       let x : ℕ × ℕ = (getD (nums S) (parent (sizes S) i) 0, offset (sizes S) i) in
       elim (tri l (length Ss)) [

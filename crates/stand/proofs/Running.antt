@@ -20,7 +20,7 @@ use Rattle.forest.proofs.CursorLaws.{runs-yes, runs-fits, runs-path}
 use Rattle.path.specs.Ways.{base, block}
 use Rattle.path.specs.Cores.{Ready, Of}
 use Rattle.path.proofs.NodeWords.{grouped}
-use Rattle.path.proofs.Laid.{Laid, RowIn, RowsIn, size-bounds, Stood, stood, child-at, child-of, parent-in, offset-in, inside, leaf-first, inner-first}
+use Rattle.path.proofs.Laid.{Laid, RowIn, RowsIn, size-bounds, ParentRow, parent-row, child-at, child-of, parent-in, offset-in, inside, leaf-first, inner-first}
 use Rattle.path.proofs.Steps.{first-word, link-word-at}
 use Rattle.path.proofs.Roots.{root-is, lies-there, some-root}
 use Rattle.walk.specs.Walks.{zeros}
@@ -87,7 +87,7 @@ module _ (ws : List ℕ) (t : ℕ) where
       let a = at-leaf (getD (nums L) j 0) path (omega arith) x in
       record { j = j; e = a .e; inside = h; most = omega (arith, a .most, length-items L j); same = ap (pathUp j As) (a .same) }
 
-  inner-reaches : (L : Row) (As : List Row) (R S : Row) (Ss : List Row) → Stood R S → RowIn innerWords ws t S → Reaches L As R (S ∷ Ss) → Reaches L As S Ss
+  inner-reaches : (L : Row) (As : List Row) (R S : Row) (Ss : List Row) → ParentRow R S → RowIn innerWords ws t S → Reaches L As R (S ∷ Ss) → Reaches L As S Ss
   inner-reaches L As R S Ss s r f q h path x =
       let w = inner-first ws t S r q h in
       let b = size-bounds 4 8 S q (omega arith) (s .filled) h in
@@ -103,14 +103,14 @@ module _ (ws : List ℕ) (t : ℕ) where
   top-reaches : (L : Row) (As : List Row) (R : Row) (Rs : List Row) → Tower R Rs → RowsIn ws t Rs → Reaches L As R Rs → (path : Path) →
       runsFrom ws t (rootAbove R Rs) path ≡ true → Found L As path
   top-reaches L As R [] w r f path x = f 0 (omega arith) path x
-  top-reaches L As R (S ∷ Ss) w r f path x = top-reaches L As S Ss (w .3) (r .1) (inner-reaches L As R S Ss (stood R S Ss w) (r .0) f) path x
+  top-reaches L As R (S ∷ Ss) w r f path x = top-reaches L As S Ss (w .3) (r .1) (inner-reaches L As R S Ss (parent-row R S Ss w) (r .0) f) path x
 
   -- and back
   climbs : (R : Row) (Rs : List Row) (i : ℕ) (below : Path) → Tower R Rs → RowsIn ws t Rs → i < length R → runsFrom ws t (getD (nums R) i 0) below ≡ true →
       runsFrom ws t (rootAbove R Rs) (pathUp i Rs below) ≡ true
   climbs R [] i below w r h x = let z : 0 ≡ i = omega arith in ap (λ (k : ℕ). runsFrom ws t (getD (nums R) k 0) below) z ∙ x
   climbs R (S ∷ Ss) i below w r h x =
-      let s = stood R S Ss w in
+      let s = parent-row R S Ss w in
       let q = parent (sizes S) i in
       let k = parent-in R S s i h in
       let o = offset-in R S s i h in
