@@ -155,10 +155,10 @@ module _ (way : Way) (ws : List ℕ) (t : ℕ) (c : Cursor) (n : ℕ) where
   down-leaf zero i z h u = absurd (z refl)
   down-leaf (suc f) i z h u = rw (le-leb 32 (getD (block ws t n) 0 0) (rw first-word h), ← u)
 
-  pub down-inner : (f i : ℕ) → (f ≡ 0 → ⊥) → getD ws (base t n) 0 < 32 → i < 8 → i ≡ turnOf way (block ws t n) →
-      extended c (descend way f ws t n) ≡ extended (pushed c n i) (descend way (f - 1) ws t (getD ws (base t n + 8 + i) 0))
+  pub down-inner : (f i : ℕ) (d : Cursor) → (f ≡ 0 → ⊥) → getD ws (base t n) 0 < 32 → i < 8 → i ≡ turnOf way (block ws t n) → d ≡ pushed c n i →
+      extended c (descend way f ws t n) ≡ extended d (descend way (f - 1) ws t (getD ws (base t n + 8 + i) 0))
   unfolding descend extended
-  down-inner zero i z h k u = absurd (z refl)
-  down-inner (suc f) i z h k u =
+  down-inner zero i d z h k u e = absurd (z refl)
+  down-inner (suc f) i d z h k u e =
       let y : suc f - 1 ≡ f = omega arith in
-      rw (lt-leb 32 (getD (block ws t n) 0 0) (rw first-word h), ← u, link-word-at ws (base t n) i k, y)
+      rw (lt-leb 32 (getD (block ws t n) 0 0) (rw first-word h), ← u, link-word-at ws (base t n) i k, y, e)

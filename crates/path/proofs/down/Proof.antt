@@ -120,7 +120,7 @@ loop-again c =
     let i = c .before .turn .result in
     let z = some (c .before .before .before .before) in
     let d = child-deep (m .k) (a .ws .now) (a .t) (m .n) i z (m .inv .0) (c .before .before .if1 .left) (c .before .turn .ensures .1) in
-    (d, omega (arith, m .inv .1, c .before .before .before .before .loop-test .taken), rw (same (m .out) (m .n) i) (sym (down-inner (a .way) (a .ws .now) (a .t) (m .out) (m .n) (m .k) i z (c .before .before .if1 .left) (child (c .before)) (c .before .turn .ensures .0)) ∙ m .inv .2))
+    (d, omega (arith, m .inv .1, c .before .before .before .before .loop-test .taken), sym (down-inner (a .way) (a .ws .now) (a .t) (m .out) (m .n) (m .k) i _ z (c .before .before .if1 .left) (child (c .before)) (c .before .turn .ensures .0) (same (m .out) (m .n) i)) ∙ m .inv .2)
 
 returns-2 : tie.Need-returns-2 Inv-loop μ-loop
 returns-2 c =
