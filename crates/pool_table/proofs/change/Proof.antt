@@ -1,61 +1,50 @@
-use mathlib.Core.Path.{_≡_, refl, ap, _∙_}
-use mathlib.Core.Logic.{⊎-elim}
-use Prim.Native.Nat.{_≤_, _-_}
+-- `pool_table::change` is safe and ends. Assumes nothing.
 use native.Mathlib.Omega.{arith}
-use lib.ListN.{length, length-set}
+use borrow.Author.Needs.{needs}
 use Rattle.pool_table.proofs.change.Statement.{statement}
 use Rattle.pool_table.proofs.change.Tie as tie
 
 abbrev Inv-loop : tie.InvT-loop
-Inv-loop ws₀ changes i₀ ws i = (length ws ≡ length ws₀) × (i ≤ length changes)
+Inv-loop ws₀ more left₀ ws left = Unit {0}
 
 abbrev μ-loop : tie.MeasureT-loop
-μ-loop ws₀ changes i₀ ws i = length changes - i
+μ-loop ws₀ more left₀ ws left = left
+
+returns : tie.Need-returns Inv-loop μ-loop
+returns c = search needs
 
 loop-holds : tie.Need-loop-holds Inv-loop μ-loop
-loop-holds c = (refl, omega arith)
+loop-holds c = search needs
 
-add-loop : tie.Need-add-loop Inv-loop μ-loop
-add-loop c = omega arith
+number-requires : tie.Need-number-requires Inv-loop μ-loop
+number-requires c κs = search needs
 
-mul-at : tie.Need-mul-at Inv-loop μ-loop
-mul-at c = omega arith
+number-requires-2 : tie.Need-number-requires-2 Inv-loop μ-loop
+number-requires-2 c κs = search needs
 
-shared-slice-read-at : tie.Need-shared-slice-read-at Inv-loop μ-loop
-shared-slice-read-at c = omega arith
-
-cast-at : tie.Need-cast-at Inv-loop μ-loop
-cast-at c = omega (arith, c .shared-slice-known .given (c .before .before .loop .i))
-
-add-ws : tie.Need-add-ws Inv-loop μ-loop
-add-ws c = omega arith
+cast-i : tie.Need-cast-i Inv-loop μ-loop
+cast-i c = omega arith
 
 mul-ws : tie.Need-mul-ws Inv-loop μ-loop
 mul-ws c = omega arith
 
-shared-slice-read-ws : tie.Need-shared-slice-read-ws Inv-loop μ-loop
-shared-slice-read-ws c = omega arith
+element-write-ws : tie.Need-element-write-ws Inv-loop μ-loop
+element-write-ws c = search needs
 
-mul-ws-2 : tie.Need-mul-ws-2 Inv-loop μ-loop
-mul-ws-2 c = omega arith
+returns-2 : tie.Need-returns-2 Inv-loop μ-loop
+returns-2 c = search needs
 
-slice-write-ws : tie.Need-slice-write-ws Inv-loop μ-loop
-slice-write-ws c = omega arith
-
-add-i : tie.Need-add-i Inv-loop μ-loop
-add-i c = omega arith
+sub-left : tie.Need-sub-left Inv-loop μ-loop
+sub-left c = omega arith
 
 loop-less : tie.Need-loop-less Inv-loop μ-loop
 loop-less c = omega arith
 
 loop-again : tie.Need-loop-again Inv-loop μ-loop
-loop-again c = (⊎-elim (λ w. ap length (w .2) ∙ simp length-set (c .before .before .before .loop .inv .0)) (λ w. ap length (w .1) ∙ c .before .before .before .loop .inv .0) (c .if1 .came), omega arith)
+loop-again c = search needs
 
-same-length : tie.Need-same-length Inv-loop μ-loop
-same-length c = c .before .loop .inv .0
-
-returns : tie.Need-returns Inv-loop μ-loop
-returns c = tt
+returns-3 : tie.Need-returns-3 Inv-loop μ-loop
+returns-3 c = search needs
 
 pub change-spec : {M : Type 1} → statement M
 change-spec =
@@ -63,18 +52,15 @@ change-spec =
     (tie.spec
     Inv-loop
     μ-loop
+    returns
     loop-holds
-    add-loop
-    mul-at
-    shared-slice-read-at
-    cast-at
-    add-ws
+    number-requires
+    number-requires-2
+    cast-i
     mul-ws
-    shared-slice-read-ws
-    mul-ws-2
-    slice-write-ws
-    add-i
+    element-write-ws
+    returns-2
+    sub-left
     loop-less
     loop-again
-    same-length
-    returns)
+    returns-3)

@@ -1,3 +1,4 @@
+-- `pool_table::say_first` is safe and ends. Assumes nothing.
 use mathlib.Core.Path.{sym}
 use native.Mathlib.Omega.{arith}
 use lib.Seq.{length-take-le}
@@ -5,8 +6,11 @@ use borrow.Author.Needs.{needs}
 use Rattle.pool_table.proofs.say_first.Statement.{statement}
 use Rattle.pool_table.proofs.say_first.Tie as tie
 
+array-share-prefix-ws : tie.Need-array-share-prefix-ws
+array-share-prefix-ws c = search needs
+
 slice-aggregate-check : tie.Need-slice-aggregate-check
-slice-aggregate-check c = sym (length-take-le (c .before .before .before .before .args .long) (c .before .before .before .before .args .ws .now) (omega arith))
+slice-aggregate-check c = sym (length-take-le _ _ (omega (arith, c .before .before .good)))
 
 check-requires : tie.Need-check-requires
 check-requires c κs = search needs
@@ -22,4 +26,11 @@ returns-2 c = search needs
 
 pub say-first-spec : {M : Type 1} → statement M
 say-first-spec =
-    tie.close (tie.spec slice-aggregate-check check-requires say-requires returns returns-2)
+    tie.close
+    (tie.spec
+    array-share-prefix-ws
+    slice-aggregate-check
+    check-requires
+    say-requires
+    returns
+    returns-2)

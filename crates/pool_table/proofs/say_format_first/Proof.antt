@@ -9,7 +9,7 @@ slice-relend-prefix-say-format : tie.Need-slice-relend-prefix-say-format
 slice-relend-prefix-say-format c = search needs
 
 slice-aggregate-say-format : tie.Need-slice-aggregate-say-format
-slice-aggregate-say-format c = sym (length-take-le (c .before .before .before .before .args .long) (c .before .before .before .before .args .ws .now) (omega arith))
+slice-aggregate-say-format c = sym (length-take-le (c .before .before .before .args .long) (c .before .before .before .args .ws .now) (omega arith))
 
 say-format-requires : tie.Need-say-format-requires
 say-format-requires c κs = search needs

@@ -1,93 +1,7 @@
-// Pools that are written out by hand, into words that are all 0.
+// A pool of six levels.
 ghost use Prim.Native.Nat.{_≤_, _<_};
 
-// Copies words to place a and after it, where there is room.
-pub fn words(ws: &mut [u32], a: usize, from: &[u32])
-    requires { ⌜ a < 10000 ⌝ }
-{
-    let mut i = 0;
-    while i < from.len() {
-        if a + i < ws.len() {
-            ws[a + i] = from[i];
-        }
-        i += 1;
-    }
-}
-
-// Document 01: T = 1, N = 2, fresh. 38 words.
-pub fn fresh(ws: &mut [u32]) {
-    words(ws, 0, &[1, 0, 2]);
-    words(ws, 35, &[2, 2, 1]);
-}
-
-// Document 01: the same after putting 9 with value 100 in tree 0.
-pub fn one_pair(ws: &mut [u32]) {
-    words(ws, 0, &[1, 1, 2]);
-    words(ws, 3, &[33, 9, 0, 0, 0, 0, 0, 0, 100, 0, 0, 0, 0, 0, 0, 0]);
-    words(ws, 35, &[1, 2]);
-}
-
-// An inside leaf of 3 entries: 10, 20, 30 / 40 below node 3. 55 words.
-pub fn inside_three(ws: &mut [u32]) {
-    words(ws, 0, &[1, 3, 3]);
-    words(ws, 3, &[35, 10, 20, 30, 0, 0, 0, 0, 1, 2, 3, 0, 0, 0, 0, 0]);
-    words(ws, 19, &[33, 40, 0, 0, 0, 0, 0, 0, 4, 0, 0, 0, 0, 0, 0, 0]);
-    words(ws, 35, &[17, 40, 0, 0, 0, 0, 0, 0, 1, 2, 0, 0, 0, 0, 0, 0]);
-}
-
-// An inner node of one child, the last of its level: tree 0 has three levels, node 8 over 6 and 7 over leaves 1 to 5. 209 words.
-pub fn one_child(ws: &mut [u32]) {
-    one_child_leaves(ws);
-    one_child_above(ws);
-}
-
-fn one_child_leaves(ws: &mut [u32]) {
-    words(
-        ws,
-        4,
-        &[35, 10, 11, 12, 0, 0, 0, 0, 100, 110, 120, 0, 0, 0, 0, 0],
-    );
-    words(
-        ws,
-        20,
-        &[35, 20, 21, 22, 0, 0, 0, 0, 200, 210, 220, 0, 0, 0, 0, 0],
-    );
-    words(
-        ws,
-        36,
-        &[36, 30, 31, 32, 33, 0, 0, 0, 300, 310, 320, 330, 0, 0, 0, 0],
-    );
-    words(
-        ws,
-        52,
-        &[35, 40, 41, 42, 0, 0, 0, 0, 400, 410, 420, 0, 0, 0, 0, 0],
-    );
-    words(
-        ws,
-        68,
-        &[33, 50, 0, 0, 0, 0, 0, 0, 500, 0, 0, 0, 0, 0, 0, 0],
-    );
-}
-
-// Tree 1 is leaf 9, with the least and the greatest key; 10 to 12 are free.
-fn one_child_above(ws: &mut [u32]) {
-    words(ws, 0, &[2, 8, 9, 12]);
-    words(
-        ws,
-        84,
-        &[19, 20, 30, 40, 0, 0, 0, 0, 1, 2, 3, 4, 0, 0, 0, 0],
-    );
-    words(ws, 100, &[16, 0, 0, 0, 0, 0, 0, 0, 5, 0, 0, 0, 0, 0, 0, 0]);
-    words(ws, 116, &[17, 50, 0, 0, 0, 0, 0, 0, 6, 7, 0, 0, 0, 0, 0, 0]);
-    words(
-        ws,
-        132,
-        &[34, 0, 4294967295, 0, 0, 0, 0, 0, 1, 2, 0, 0, 0, 0, 0, 0],
-    );
-    words(ws, 196, &[3, 12, 11, 10]);
-}
-
-// The number of entries of leaf j of the six levels.
+// The number of entries of leaf j.
 fn entries(j: u32) -> u32
     ensures { λ r. ⌜ r ≤ 3 ⌝ }
 {
@@ -189,7 +103,7 @@ fn node_word(n: u32, p: u32) -> u32 {
 
 // The word at a place of a pool of six levels: 257 leaves below 65, 17, 5, 2 and 1 inner nodes. All but the last of a level are as small
 // as they may be, and the last ones have one entry or one child; 165 nodes of 512 are free.
-fn six_word(at: usize) -> u32 {
+fn word_at(at: usize) -> u32 {
     if at == 0 {
         return 1;
     }
@@ -212,10 +126,11 @@ fn six_word(at: usize) -> u32 {
     0
 }
 
-pub fn six_levels(ws: &mut [u32]) {
+// Writes the pool, and zeros after it.
+pub fn write(ws: &mut [u32]) {
     let mut i = 0;
     while i < ws.len() {
-        ws[i] = six_word(i);
+        ws[i] = word_at(i);
         i += 1;
     }
 }
