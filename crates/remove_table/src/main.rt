@@ -27,15 +27,20 @@ fn answer(r: forest::Reply) {
     io::write_all(1, b"\n");
 }
 
+// A level of a cursor: node and place.
+fn level(c: Cursor, i: usize)
+    requires { ⌜ i < 16 ⌝ }
+{
+    number(c.nodes[i]);
+    number(c.places[i]);
+}
+
 // The size of a cursor, and its first three nodes and places.
 fn place(c: Cursor) {
     number(c.size);
-    number(c.nodes[0]);
-    number(c.places[0]);
-    number(c.nodes[1]);
-    number(c.places[1]);
-    number(c.nodes[2]);
-    number(c.places[2]);
+    level(c, 0);
+    level(c, 1);
+    level(c, 2);
     io::write_all(1, b"\n");
 }
 
@@ -82,117 +87,124 @@ fn put(ws: &mut [u32], key: u32) {
     map::put(ws, 0, key, 7);
 }
 
-// Tree B: 10 to 70 and 35, in three nodes.
-fn tree_b(ws: &mut [u32]) {
-    pool::format(ws, 1, 3);
-    put(ws, 10);
-    put(ws, 20);
-    put(ws, 30);
-    put(ws, 40);
-    put(ws, 50);
-    put(ws, 60);
-    put(ws, 70);
-    put(ws, 35);
-}
-
-// Keys 1 to `n` are put, in 12 nodes.
-fn rising(ws: &mut [u32], n: u32)
-    requires { ⌜ n ≤ 36 ⌝ }
+// Keys `step`, twice `step` and so on are put, `n` of them.
+fn rising(ws: &mut [u32], step: u32, n: u32)
+    requires { ⌜ (step ≤ 10) × (n ≤ 36) ⌝ }
 {
-    pool::format(ws, 1, 12);
-    let mut key: u32 = 1;
-    while key <= n {
+    let mut key: u32 = 0;
+    let mut left = n;
+    while left > 0 {
+        key += step;
         put(ws, key);
-        key += 1;
-    }
-}
-
-// Keys are taken out from `high` down to `low`; each answer is told.
-fn down(ws: &mut [u32], high: u32, low: u32)
-    requires { ⌜ high ≤ 36 ⌝ }
-{
-    let mut left = high;
-    while low < left {
-        answer(map::remove(ws, 0, left));
         left -= 1;
     }
 }
 
-// And from 1 up to 36.
-fn up(ws: &mut [u32]) {
-    let mut key: u32 = 1;
-    while key <= 36 {
+// Tree B: 10 to 70 and 35, in three nodes.
+fn tree_b(ws: &mut [u32]) {
+    pool::format(ws, 1, 3);
+    rising(ws, 10, 7);
+    put(ws, 35);
+}
+
+// Keys 1 to 36, in 12 nodes, under a head.
+fn long_tree(name: &[u8], ws: &mut [u32]) {
+    head(name);
+    pool::format(ws, 1, 12);
+    rising(ws, 1, 36);
+}
+
+// `n` keys from `from` on, each `step` further, modulo 37, are taken out; each answer is told.
+fn emptied(ws: &mut [u32], from: u32, step: u32, n: u32)
+    requires { ⌜ (from < 37) × (step < 37) ⌝ }
+{
+    let mut key = from;
+    let mut left = n;
+    while left > 0 {
         answer(map::remove(ws, 0, key));
-        key += 1;
+        key = (key + step) % 37;
+        left -= 1;
     }
 }
 
-fn trials() {
-    head(b"P5: B, 10 removed");
+// A key is taken out of B.
+fn trial(name: &[u8], key: u32) {
+    head(name);
     let mut b = [0u32; 55];
     tree_b(&mut b);
-    take(&mut b, 10);
-    show(&b);
-    head(b"P6: B, 70 removed");
-    tree_b(&mut b);
-    take(&mut b, 70);
+    take(&mut b, key);
     show(&b);
 }
 
-fn more_trials() {
-    head(b"P7: B, 40 removed");
-    let mut b = [0u32; 55];
-    tree_b(&mut b);
-    take(&mut b, 40);
-    show(&b);
+fn trials() {
+    trial(b"P5: B, 10 removed", 10);
+    trial(b"P6: B, 70 removed", 70);
+    trial(b"P7: B, 40 removed", 40);
+}
+
+fn after_a_put() {
     head(b"P8: B with 80 put, 20 removed");
+    let mut b = [0u32; 55];
     tree_b(&mut b);
     put(&mut b, 80);
     take(&mut b, 20);
     show(&b);
 }
 
-fn last_trials() {
+fn and_next() {
     head(b"P9: B, 38 sought, removed there, next");
     let mut b = [0u32; 55];
     tree_b(&mut b);
     let c = take(&mut b, 38);
     moved(map::next(&b, c));
     show(&b);
+}
+
+fn one_pair() {
     head(b"P10: one pair, removed, and removed again");
-    let mut d = [0u32; 38];
-    pool::format(&mut d, 1, 2);
-    put(&mut d, 9);
-    answer(map::remove(&mut d, 0, 9));
-    answer(map::remove(&mut d, 0, 9));
-    show(&d);
-}
-
-fn merges() {
-    let mut b = [0u32; 208];
-    head(b"1 to 36, 13 removed: a merge across parents, a parent's merge, a shrunken root");
-    rising(&mut b, 36);
-    show(&b);
-    take(&mut b, 13);
-    show(&b);
-    head(b"1 to 36, 36 down to 17 removed: a right end that empties");
-    rising(&mut b, 36);
-    down(&mut b, 36, 20);
-    show(&b);
-    down(&mut b, 20, 16);
+    let mut b = [0u32; 38];
+    pool::format(&mut b, 1, 2);
+    put(&mut b, 9);
+    emptied(&mut b, 9, 0, 2);
     show(&b);
 }
 
-fn emptied() {
+fn merges(b: &mut [u32]) {
+    long_tree(
+        b"1 to 36, 13 removed: a merge across parents, a parent's merge, a shrunken root",
+        b,
+    );
+    show(b);
+    take(b, 13);
+    show(b);
+}
+
+fn right_end(b: &mut [u32]) {
+    long_tree(
+        b"1 to 36, 36 down to 17 removed: a right end that empties",
+        b,
+    );
+    emptied(b, 36, 36, 16);
+    show(b);
+    emptied(b, 20, 36, 4);
+    show(b);
+}
+
+// Each key is taken out, from `from` on.
+fn all(name: &[u8], b: &mut [u32], from: u32, step: u32)
+    requires { ⌜ (from < 37) × (step < 37) ⌝ }
+{
+    long_tree(name, b);
+    emptied(b, from, step, 36);
+    show(b);
+}
+
+fn long_trees() {
     let mut b = [0u32; 208];
-    head(b"1 to 36, emptied from the right");
-    rising(&mut b, 36);
-    down(&mut b, 36, 0);
-    show(&b);
-    head(b"1 to 36, emptied from the left");
-    rising(&mut b, 36);
-    up(&mut b);
-    show(&b);
+    merges(&mut b);
+    right_end(&mut b);
+    all(b"1 to 36, emptied from the right", &mut b, 36, 36);
+    all(b"1 to 36, emptied from the left", &mut b, 1, 1);
 }
 
 fn refusals() {
@@ -211,9 +223,9 @@ fn refusals() {
 
 fn main() {
     trials();
-    more_trials();
-    last_trials();
-    merges();
-    emptied();
+    after_a_put();
+    and_next();
+    one_pair();
+    long_trees();
     refusals();
 }

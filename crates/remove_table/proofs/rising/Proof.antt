@@ -1,31 +1,32 @@
--- `remove_table::rising` is safe and ends.
+-- `remove_table::rising` is safe and ends. Assumes nothing.
 use mathlib.Core.Path.{_≡_}
-use Prim.Native.Nat.{_≤_, _-_}
+use Prim.Native.Nat.{_+_, _*_, _≤_}
+use native.Mathlib.Omega.{arith}
 use lib.ListN.{length}
 use borrow.Author.Needs.{needs}
 use Rattle.remove_table.proofs.rising.Statement.{statement}
 use Rattle.remove_table.proofs.rising.Tie as tie
 
 abbrev Inv-loop : tie.InvT-loop
-Inv-loop ws₀ n key₀ ws key = (1 ≤ key) × (key ≤ 37) × (length ws ≡ length ws₀)
+Inv-loop ws₀ step n key₀ left₀ ws key left = (key + 10 * left ≤ 360) × (length ws ≡ length ws₀)
 
 abbrev μ-loop : tie.MeasureT-loop
-μ-loop ws₀ n key₀ ws key = 37 - key
-
-format-requires : tie.Need-format-requires Inv-loop μ-loop
-format-requires c κs = search needs
+μ-loop ws₀ step n key₀ left₀ ws key left = left
 
 loop-holds : tie.Need-loop-holds Inv-loop μ-loop
 loop-holds c = search needs
 
+add-key : tie.Need-add-key Inv-loop μ-loop
+add-key c = omega arith
+
 put-requires : tie.Need-put-requires Inv-loop μ-loop
 put-requires c κs = search needs
 
-add-key : tie.Need-add-key Inv-loop μ-loop
-add-key c = search needs
+sub-left : tie.Need-sub-left Inv-loop μ-loop
+sub-left c = omega arith
 
 loop-less : tie.Need-loop-less Inv-loop μ-loop
-loop-less c = search needs
+loop-less c = omega arith
 
 loop-again : tie.Need-loop-again Inv-loop μ-loop
 loop-again c = search needs
@@ -42,10 +43,10 @@ rising-spec =
     (tie.spec
     Inv-loop
     μ-loop
-    format-requires
     loop-holds
-    put-requires
     add-key
+    put-requires
+    sub-left
     loop-less
     loop-again
     same-length

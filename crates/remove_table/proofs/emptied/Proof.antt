@@ -1,31 +1,35 @@
--- `remove_table::up` is safe and ends.
+-- `remove_table::emptied` is safe and ends. Assumes nothing.
 use mathlib.Core.Path.{_≡_}
-use Prim.Native.Nat.{_≤_, _-_}
+use Prim.Native.Nat.{_<_}
+use native.Mathlib.Omega.{arith}
 use lib.ListN.{length}
 use borrow.Author.Needs.{needs}
-use Rattle.remove_table.proofs.up.Statement.{statement}
-use Rattle.remove_table.proofs.up.Tie as tie
+use Rattle.remove_table.proofs.emptied.Statement.{statement}
+use Rattle.remove_table.proofs.emptied.Tie as tie
 
 abbrev Inv-loop : tie.InvT-loop
-Inv-loop ws₀ key₀ ws key = (1 ≤ key) × (key ≤ 37) × (length ws ≡ length ws₀)
+Inv-loop ws₀ from step n key₀ left₀ ws key left = (key < 37) × (length ws ≡ length ws₀)
 
 abbrev μ-loop : tie.MeasureT-loop
-μ-loop ws₀ key₀ ws key = 37 - key
+μ-loop ws₀ from step n key₀ left₀ ws key left = left
 
 loop-holds : tie.Need-loop-holds Inv-loop μ-loop
 loop-holds c = search needs
 
 remove-requires : tie.Need-remove-requires Inv-loop μ-loop
-remove-requires c κs = search needs
+remove-requires c κs = omega arith
 
 answer-requires : tie.Need-answer-requires Inv-loop μ-loop
 answer-requires c κs = search needs
 
 add-key : tie.Need-add-key Inv-loop μ-loop
-add-key c = search needs
+add-key c = omega arith
+
+sub-left : tie.Need-sub-left Inv-loop μ-loop
+sub-left c = omega arith
 
 loop-less : tie.Need-loop-less Inv-loop μ-loop
-loop-less c = search needs
+loop-less c = omega arith
 
 loop-again : tie.Need-loop-again Inv-loop μ-loop
 loop-again c = search needs
@@ -36,8 +40,8 @@ same-length c = search needs
 returns : tie.Need-returns Inv-loop μ-loop
 returns c = search needs
 
-pub up-spec : {M : Type 1} → statement M
-up-spec =
+pub emptied-spec : {M : Type 1} → statement M
+emptied-spec =
     tie.close
     (tie.spec
     Inv-loop
@@ -46,6 +50,7 @@ up-spec =
     remove-requires
     answer-requires
     add-key
+    sub-left
     loop-less
     loop-again
     same-length
