@@ -38,16 +38,21 @@ fn put(ws: &mut [u32], key: u32, value: u32) {
     answer(map::put(ws, 0, key, value));
 }
 
-// Tree A: 10 to 70 in one leaf.
-fn tree_a(ws: &mut [u32], nodes: u32) {
+// A put, and the words then.
+fn shown(ws: &mut [u32], key: u32, value: u32) {
+    put(ws, key, value);
+    show(ws);
+}
+
+// Tree A: 10 to 70 in one leaf, under a head.
+fn tree_a(name: &[u8], ws: &mut [u32], nodes: u32) {
+    head(name);
     answer(pool::format(ws, 1, nodes));
-    put(ws, 10, 100);
-    put(ws, 20, 200);
-    put(ws, 30, 300);
-    put(ws, 40, 400);
-    put(ws, 50, 500);
-    put(ws, 60, 600);
-    put(ws, 70, 700);
+    let mut key: u32 = 10;
+    while key < 80 {
+        put(ws, key, 10 * key);
+        key += 10;
+    }
 }
 
 // A put is refused for want of nodes.
@@ -83,32 +88,30 @@ fn filled(ws: &mut [u32], from: u32, step: u32)
 }
 
 fn trials() {
-    head(b"P1, P4: A with 35 put, and again");
     let mut b = [0u32; 55];
-    tree_a(&mut b, 3);
-    put(&mut b, 35, 350);
-    show(&b);
-    put(&mut b, 35, 350);
-    show(&b);
-    head(b"P2: A with 45 put");
-    let mut c = [0u32; 55];
-    tree_a(&mut c, 3);
-    put(&mut c, 45, 450);
-    show(&c);
+    tree_a(b"P1, P4: A with 35 put, and again", &mut b, 3);
+    shown(&mut b, 35, 350);
+    shown(&mut b, 35, 350);
+    tree_a(b"P2: A with 45 put", &mut b, 3);
+    shown(&mut b, 45, 450);
 }
 
-fn refusals() {
-    head(b"P3: A in two nodes, 35 put; a present key replaced there");
+fn no_room() {
     let mut b = [0u32; 38];
-    tree_a(&mut b, 2);
+    tree_a(
+        b"P3: A in two nodes, 35 put; a present key replaced there",
+        &mut b,
+        2,
+    );
     put(&mut b, 35, 350);
-    put(&mut b, 70, 7);
-    show(&b);
+    shown(&mut b, 70, 7);
+}
+
+fn no_nodes() {
     head(b"no node at all");
-    let mut c = [0u32; 4];
-    answer(pool::format(&mut c, 1, 0));
-    put(&mut c, 1, 1);
-    show(&c);
+    let mut b = [0u32; 4];
+    answer(pool::format(&mut b, 1, 0));
+    shown(&mut b, 1, 1);
 }
 
 fn ends() {
@@ -120,8 +123,7 @@ fn ends() {
     answer(map::put(&mut b, 1, 5, 5));
     show(&b);
     b[0] = 2;
-    put(&mut b, 5, 5);
-    show(&b);
+    shown(&mut b, 5, 5);
 }
 
 fn fills() {
@@ -134,7 +136,8 @@ fn fills() {
 
 fn main() {
     trials();
-    refusals();
+    no_room();
+    no_nodes();
     ends();
     fills();
 }

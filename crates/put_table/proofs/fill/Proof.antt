@@ -5,9 +5,6 @@ use lib.ListN.{length}
 use borrow.Author.Needs.{needs}
 use Rattle.put_table.proofs.fill.Statement.{statement}
 use Rattle.put_table.proofs.fill.Tie as tie
-use Rattle.put_table.proofs.fill.Reads as reads
-use Rattle.put_table.proofs.fill.Lts as lts
-use Rattle.put_table.proofs.full.Reads as full-reads
 
 abbrev Inv-loop : tie.InvT-loop
 Inv-loop ws₀ from step key₀ i₀ ws key i = (i ≤ 101) × (key < 101) × (length ws ≡ length ws₀)

@@ -4,10 +4,6 @@ use lib.ListN.{length}
 use borrow.Author.Needs.{needs}
 use Rattle.put_table.proofs.show.Statement.{statement}
 use Rattle.put_table.proofs.show.Tie as tie
-use Rattle.put_table.proofs.show.Reads as reads
-use Rattle.put_table.proofs.show.Lts as lts
-use Rattle.io.proofs.write_all.Reads as write-all-reads
-use Rattle.put_table.proofs.number.Reads as number-reads
 
 abbrev Inv-loop : tie.InvT-loop
 Inv-loop ws i₀ t3 i = i ≤ length ws
