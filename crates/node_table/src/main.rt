@@ -65,32 +65,14 @@ fn leaf_of(n: usize) -> [u32; 16]
     requires { ⌜ (1 ≤ n) × (n ≤ 7) ⌝ }
     ensures { λ r. ⌜ Leaf r × (getD r 0 0 ≡ 32 + n) ⌝ }
 {
-    let w1 = one_pair();
-    if n <= 1 {
-        return w1;
+    let mut w = one_pair();
+    let mut i = 1;
+    while i < n {
+        let more = next_pair(w, i);
+        w = more;
+        i += 1;
     }
-    let w2 = next_pair(w1, 1);
-    if n <= 2 {
-        return w2;
-    }
-    let w3 = next_pair(w2, 2);
-    if n <= 3 {
-        return w3;
-    }
-    let w4 = next_pair(w3, 3);
-    if n <= 4 {
-        return w4;
-    }
-    let w5 = next_pair(w4, 4);
-    if n <= 5 {
-        return w5;
-    }
-    let w6 = next_pair(w5, 5);
-    if n <= 6 {
-        return w6;
-    }
-    let w7 = next_pair(w6, 6);
-    w7
+    w
 }
 
 // An inner node of two children.
@@ -121,35 +103,24 @@ fn inner_of(n: usize) -> [u32; 16]
     requires { ⌜ (1 ≤ n) × (n ≤ 8) ⌝ }
     ensures { λ r. ⌜ Inner r × (getD r 0 0 ≡ 15 + n) ⌝ }
 {
-    if n <= 1 {
+    if n == 1 {
         return one_child();
     }
-    let w2 = two_children();
-    if n <= 2 {
-        return w2;
+    let mut w = two_children();
+    let mut i = 2;
+    while i < n {
+        let more = next_child(w, i);
+        w = more;
+        i += 1;
     }
-    let w3 = next_child(w2, 2);
-    if n <= 3 {
-        return w3;
-    }
-    let w4 = next_child(w3, 3);
-    if n <= 4 {
-        return w4;
-    }
-    let w5 = next_child(w4, 4);
-    if n <= 5 {
-        return w5;
-    }
-    let w6 = next_child(w5, 5);
-    if n <= 6 {
-        return w6;
-    }
-    let w7 = next_child(w6, 6);
-    if n <= 7 {
-        return w7;
-    }
-    let w8 = next_child(w7, 7);
-    w8
+    w
+}
+
+// The start of a line: the operation, the size of the node, and the place or the size of the other node.
+fn title(name: &[u8], n: usize, at: usize) {
+    io::write_all(STDOUT_FILENO, name);
+    number(size(n));
+    number(size(at));
 }
 
 fn split(s: node::SplitOff) {
@@ -190,36 +161,30 @@ fn balanced(b: node::Balanced) {
     end();
 }
 
-fn leaf_insert(n: usize, at: usize) {
-    if n < 1 {
-        return;
-    }
+fn leaf_insert(n: usize, at: usize)
+    requires { ⌜ 1 ≤ n ⌝ }
+{
     if 7 <= n {
         return;
     }
     if n < at {
         return;
     }
-    io::write_all(STDOUT_FILENO, b"leaf_insert");
-    number(size(n));
-    number(size(at));
+    title(b"leaf_insert", n, at);
     words(node::leaf_insert(leaf_of(n), at, BETWEEN[at], 99));
     end();
 }
 
-fn inner_insert(n: usize, index: usize) {
-    if n < 1 {
-        return;
-    }
+fn inner_insert(n: usize, index: usize)
+    requires { ⌜ 1 ≤ n ⌝ }
+{
     if 8 <= n {
         return;
     }
     if n <= index {
         return;
     }
-    io::write_all(STDOUT_FILENO, b"inner_insert");
-    number(size(n));
-    number(size(index));
+    title(b"inner_insert", n, index);
     words(node::inner_insert(inner_of(n), index, BETWEEN[index + 1], 99));
     end();
 }
@@ -231,9 +196,7 @@ fn leaf_split(n: usize, at: usize) {
     if 7 < at {
         return;
     }
-    io::write_all(STDOUT_FILENO, b"leaf_split");
-    number(size(n));
-    number(size(at));
+    title(b"leaf_split", n, at);
     split(node::leaf_split(leaf_of(n), at, BETWEEN[at], 99));
 }
 
@@ -244,48 +207,39 @@ fn inner_split(n: usize, index: usize) {
     if 8 <= index {
         return;
     }
-    io::write_all(STDOUT_FILENO, b"inner_split");
-    number(size(n));
-    number(size(index));
+    title(b"inner_split", n, index);
     split(node::inner_split(inner_of(n), index, BETWEEN[index + 1], 99));
 }
 
-fn leaf_remove(n: usize, at: usize) {
-    if n < 1 {
-        return;
-    }
+fn leaf_remove(n: usize, at: usize)
+    requires { ⌜ 1 ≤ n ⌝ }
+{
     if 7 < n {
         return;
     }
     if n <= at {
         return;
     }
-    io::write_all(STDOUT_FILENO, b"leaf_remove");
-    number(size(n));
-    number(size(at));
+    title(b"leaf_remove", n, at);
     cut(node::leaf_remove(leaf_of(n), at));
 }
 
-fn inner_remove(n: usize, at: usize) {
-    if n < 1 {
-        return;
-    }
+fn inner_remove(n: usize, at: usize)
+    requires { ⌜ 1 ≤ n ⌝ }
+{
     if 8 < n {
         return;
     }
     if n <= at {
         return;
     }
-    io::write_all(STDOUT_FILENO, b"inner_remove");
-    number(size(n));
-    number(size(at));
+    title(b"inner_remove", n, at);
     cut(node::inner_remove(inner_of(n), at));
 }
 
-fn leaf_balance(n: usize, m: usize) {
-    if n < 1 {
-        return;
-    }
+fn leaf_balance(n: usize, m: usize)
+    requires { ⌜ 1 ≤ n ⌝ }
+{
     if 7 < n {
         return;
     }
@@ -295,16 +249,13 @@ fn leaf_balance(n: usize, m: usize) {
     if 7 < m {
         return;
     }
-    io::write_all(STDOUT_FILENO, b"leaf_balance");
-    number(size(n));
-    number(size(m));
+    title(b"leaf_balance", n, m);
     balanced(node::leaf_balance(leaf_of(n), leaf_of(m)));
 }
 
-fn inner_balance(n: usize, m: usize) {
-    if n < 1 {
-        return;
-    }
+fn inner_balance(n: usize, m: usize)
+    requires { ⌜ 1 ≤ n ⌝ }
+{
     if 8 < n {
         return;
     }
@@ -314,14 +265,14 @@ fn inner_balance(n: usize, m: usize) {
     if 8 < m {
         return;
     }
-    io::write_all(STDOUT_FILENO, b"inner_balance");
-    number(size(n));
-    number(size(m));
+    title(b"inner_balance", n, m);
     balanced(node::inner_balance(inner_of(n), inner_of(m), 99));
 }
 
 // All operations on a node of size n at place `at`.
-fn lines(n: usize, at: usize) {
+fn lines(n: usize, at: usize)
+    requires { ⌜ 1 ≤ n ⌝ }
+{
     leaf_insert(n, at);
     leaf_split(n, at);
     leaf_remove(n, at);
@@ -332,7 +283,9 @@ fn lines(n: usize, at: usize) {
     inner_balance(n, at);
 }
 
-fn places(n: usize) {
+fn places(n: usize)
+    requires { ⌜ 1 ≤ n ⌝ }
+{
     for at in 0..9 {
         lines(n, at);
     }

@@ -5,7 +5,7 @@ use Rattle.node_table.proofs.sizes.Statement.{statement}
 use Rattle.node_table.proofs.sizes.Tie as tie
 
 abbrev Inv-loop : tie.InvT-loop
-Inv-loop n₀ n = n ≤ 9
+Inv-loop n₀ n = (1 ≤ n) × (n ≤ 9)
 
 abbrev μ-loop : tie.MeasureT-loop
 μ-loop n₀ n = 9 - n
