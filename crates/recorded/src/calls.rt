@@ -54,12 +54,11 @@ fn levels(r: &[u32; 37], at: usize) -> [u32; 16]
     requires { ⌜ at < 32 ⌝ }
 {
     let mut ls = [0u32; 16];
-    ls[0] = r[at];
-    ls[1] = r[at + 1];
-    ls[2] = r[at + 2];
-    ls[3] = r[at + 3];
-    ls[4] = r[at + 4];
-    ls[5] = r[at + 5];
+    let mut i: usize = 0;
+    while i < 6 {
+        ls[i] = r[at + i];
+        i += 1;
+    }
     ls
 }
 
@@ -151,37 +150,41 @@ fn keyed(ws: &mut [u32], call: u32, tree: u32, key: u32, value: u32) -> Reply {
     }
 }
 
-// A call that moves a cursor.
-fn moved(ws: &mut [u32], call: u32, at: Cursor, key: u32) -> Moved {
+// A call that moves a cursor and no word.
+fn moved(ws: &[u32], call: u32, at: Cursor, key: u32) -> Moved {
     match call {
         SEEK => map::seek(ws, at, key),
         SETTLE => map::settle(ws, at),
         FIRST => map::first(ws, at),
         NEXT => map::next(ws, at),
-        PREV => map::prev(ws, at),
-        _ => map::remove_at(ws, at),
+        _ => map::prev(ws, at),
     }
 }
 
+// A call from a cursor.
+fn from_cursor(ws: &mut [u32], call: u32, at: Cursor, key: u32) -> Moved {
+    if call == REMOVE_AT {
+        return map::remove_at(ws, at);
+    }
+    moved(ws, call, at, key)
+}
+
 // A recorded call, made. A call by key has no cursor: the recorded one, all 0, is as it was.
-fn made(ws: &mut [u32], r: &[u32; 37]) -> Moved {
+fn made(ws: &mut [u32], call: u32, r: &[u32; 37]) -> Moved {
     let at = cursor(r, 11);
-    if by_key(r[0]) {
-        let reply = keyed(ws, r[0], r[1], r[2], r[3]);
+    let key = r[2];
+    if by_key(call) {
+        let reply = keyed(ws, call, at.tree, key, r[3]);
         return Moved {
             reply: reply,
             cursor: at,
         };
     }
-    moved(ws, r[0], at, r[2])
+    from_cursor(ws, call, at, key)
 }
 
-// A recorded call, made and compared.
-pub fn judge(ws: &mut [u32], r: &[u32; 37]) -> Verdict {
-    if !known(r[0]) {
-        return Verdict::Unknown;
-    }
-    let m = made(ws, r);
+// What a call gave, and the words after it, compared with the recorded ones.
+fn compared(ws: &[u32], m: Moved, r: &[u32; 37]) -> Verdict {
     let reply = m.reply;
     let back = m.cursor;
     if !same_answer(forest::numbered(reply), r) {
@@ -194,4 +197,14 @@ pub fn judge(ws: &mut [u32], r: &[u32; 37]) -> Verdict {
         return Verdict::Words;
     }
     Verdict::Agrees
+}
+
+// A recorded call, made and compared.
+pub fn judge(ws: &mut [u32], r: &[u32; 37]) -> Verdict {
+    let call = r[0];
+    if !known(call) {
+        return Verdict::Unknown;
+    }
+    let m = made(ws, call, r);
+    compared(ws, m, r)
 }

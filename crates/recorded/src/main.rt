@@ -133,6 +133,15 @@ fn records(ws: &mut [u32], list: u32, count: u32) -> Tally
     went(count as u64, differ)
 }
 
+// The line of a list that ends with other words.
+fn words_differ(list: u32) -> Tally
+    ensures { λ r. ⌜ (r .calls ≡ 0) × (r .differ ≡ 1) ⌝ }
+{
+    about(list);
+    say(b"the words at the end differ\n");
+    went(0, 1)
+}
+
 // The words after a list's last call: whether ours are the recorded ones.
 fn last_words(ws: &[u32], list: u32) -> Tally
     ensures { λ r. ⌜ (r .calls ≡ 0) × (r .differ ≤ 1) ⌝ }
@@ -151,9 +160,7 @@ fn last_words(ws: &[u32], list: u32) -> Tally
     if same {
         return went(0, 0);
     }
-    about(list);
-    say(b"the words at the end differ\n");
-    went(0, 1)
+    words_differ(list)
 }
 
 // The line of a list whose calls all agree.
@@ -179,14 +186,26 @@ fn closed(ws: &[u32], list: u32, calls: Tally) -> Tally
     went(calls.calls, differ)
 }
 
+// The words become a fresh pool, where T and N are in range.
+fn formatted(ws: &mut [u32], trees: u32, nodes: u32) -> bool {
+    let fresh = forest::numbered(pool::format(ws, trees, nodes));
+    fresh.number == 0
+}
+
+// The line of a list whose pool can't be made.
+fn out_of_range(list: u32) -> Tally
+    ensures { λ r. ⌜ (r .calls ≡ 0) × (r .differ ≡ 0) ⌝ }
+{
+    about(list);
+    stop(b"T or N is out of range")
+}
+
 // A list on words that become a fresh pool.
 fn run(ws: &mut [u32], list: u32, trees: u32, nodes: u32, count: u32) -> Tally
     ensures { λ r. ⌜ (r .calls ≤ 4294967295) × (r .differ ≤ 4294967296) ⌝ }
 {
-    let fresh = forest::numbered(pool::format(ws, trees, nodes));
-    if fresh.number != 0 {
-        about(list);
-        return stop(b"T or N is out of range");
+    if !formatted(ws, trees, nodes) {
+        return out_of_range(list);
     }
     let calls = records(ws, list, count);
     if !calls.whole {
@@ -215,8 +234,10 @@ fn next_list(space: &mut [u32], list: u32) -> Tally
     if !input::read_words(&mut head) {
         return ends_early();
     }
-    let n = least(pool_words(head[0], head[1]), space.len());
-    run(&mut space[..n], list, head[0], head[1], head[2])
+    let trees = head[0];
+    let nodes = head[1];
+    let n = least(pool_words(trees, nodes), space.len());
+    run(&mut space[..n], list, trees, nodes, head[2])
 }
 
 // The last line: how many calls there were, and how many differences.
@@ -225,6 +246,15 @@ fn sum_up(calls: u64, differ: u64) {
     say(b" calls, ");
     number(differ);
     say(b" differ\n");
+}
+
+// The end of the input, which tells how many calls there are in all.
+fn ended(calls: u64, differ: u64, total: u32) {
+    if calls != total as u64 {
+        stop(b"the number of calls in all is not that of the lists");
+        return;
+    }
+    sum_up(calls, differ);
 }
 
 // So many lists, of so many calls in all.
@@ -242,11 +272,7 @@ fn lists(count: u32, total: u32) {
         differ += one.differ;
         i += 1;
     }
-    if calls != total as u64 {
-        stop(b"the number of calls in all is not that of the lists");
-        return;
-    }
-    sum_up(calls, differ);
+    ended(calls, differ, total);
 }
 
 fn main() {

@@ -1,15 +1,16 @@
 -- `recorded::last_words` is safe and ends. Assumes nothing.
 use Prim.Native.Nat.{_≤_, _-_}
+use native.Mathlib.Omega.{arith}
 use lib.ListN.{length}
 use borrow.Author.Needs.{needs}
 use Rattle.recorded.proofs.last_words.Statement.{statement}
 use Rattle.recorded.proofs.last_words.Tie as tie
 
 abbrev Inv-loop : tie.InvT-loop
-Inv-loop ws list same₀ i₀ t6 same i = i ≤ length ws
+Inv-loop ws list same₀ i₀ same i = i ≤ length ws
 
 abbrev μ-loop : tie.MeasureT-loop
-μ-loop ws list same₀ i₀ t6 same i = length ws - i
+μ-loop ws list same₀ i₀ same i = length ws - i
 
 loop-holds : tie.Need-loop-holds Inv-loop μ-loop
 loop-holds c = search needs
@@ -30,16 +31,16 @@ returns : tie.Need-returns Inv-loop μ-loop
 returns c = search needs
 
 mul-if1 : tie.Need-mul-if1 Inv-loop μ-loop
-mul-if1 c = search needs
+mul-if1 c = omega arith
 
 shared-slice-read-if1 : tie.Need-shared-slice-read-if1 Inv-loop μ-loop
-shared-slice-read-if1 c = search needs
+shared-slice-read-if1 c = omega arith
 
 add-i : tie.Need-add-i Inv-loop μ-loop
-add-i c = search needs
+add-i c = omega arith
 
 loop-less : tie.Need-loop-less Inv-loop μ-loop
-loop-less c = search needs
+loop-less c = omega arith
 
 loop-again : tie.Need-loop-again Inv-loop μ-loop
 loop-again c = search needs
@@ -50,17 +51,8 @@ went-requires c κs = search needs
 returns-2 : tie.Need-returns-2 Inv-loop μ-loop
 returns-2 c = search needs
 
-about-requires : tie.Need-about-requires Inv-loop μ-loop
-about-requires c κs = search needs
-
-slice-aggregate-say : tie.Need-slice-aggregate-say Inv-loop μ-loop
-slice-aggregate-say c = search needs
-
-say-requires : tie.Need-say-requires Inv-loop μ-loop
-say-requires c κs = search needs
-
-went-requires-2 : tie.Need-went-requires-2 Inv-loop μ-loop
-went-requires-2 c κs = search needs
+words-differ-requires : tie.Need-words-differ-requires Inv-loop μ-loop
+words-differ-requires c κs = search needs
 
 returns-3 : tie.Need-returns-3 Inv-loop μ-loop
 returns-3 c = search needs
@@ -84,8 +76,5 @@ last-words-spec =
     loop-again
     went-requires
     returns-2
-    about-requires
-    slice-aggregate-say
-    say-requires
-    went-requires-2
+    words-differ-requires
     returns-3)

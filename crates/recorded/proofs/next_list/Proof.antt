@@ -17,11 +17,11 @@ ends-early-requires c κs = search needs
 returns : tie.Need-returns
 returns c = search needs
 
-array-read-pool-words : tie.Need-array-read-pool-words
-array-read-pool-words c = search needs
+array-read-trees : tie.Need-array-read-trees
+array-read-trees c = search needs
 
-array-read-pool-words-2 : tie.Need-array-read-pool-words-2
-array-read-pool-words-2 c = search needs
+array-read-nodes : tie.Need-array-read-nodes
+array-read-nodes c = search needs
 
 pool-words-requires : tie.Need-pool-words-requires
 pool-words-requires c κs = search needs
@@ -37,12 +37,6 @@ slice-aggregate-run c = sym (length-take-le _ _ (c .before .least .ensures))
 
 array-read-run : tie.Need-array-read-run
 array-read-run c = search needs
-
-array-read-run-2 : tie.Need-array-read-run-2
-array-read-run-2 c = search needs
-
-array-read-run-3 : tie.Need-array-read-run-3
-array-read-run-3 c = search needs
 
 run-requires : tie.Need-run-requires
 run-requires c κs = search needs
@@ -61,15 +55,13 @@ next-list-spec =
     read-words-requires
     ends-early-requires
     returns
-    array-read-pool-words
-    array-read-pool-words-2
+    array-read-trees
+    array-read-nodes
     pool-words-requires
     least-requires
     slice-relend-prefix-run
     slice-aggregate-run
     array-read-run
-    array-read-run-2
-    array-read-run-3
     run-requires
     same-length
     returns-2)
