@@ -33,7 +33,7 @@ sound-remove-at-requires : tie.Need-sound-remove-at-requires
 sound-remove-at-requires c κs =
     let start = c .before .before .before .before .before .before .before .before .before .before in
     let a = start .args in
-    admit-stood (a .ws .now) (a .at) _ (c .before .before .before .before .admit .ensures) (c .before .before .t .given .0 .0) (cc)
+    admit-stood (a .ws .now) (a .at) _ (c .before .before .before .before .admit .ensures) (c .before .before .t .given .0 .0) (c .before .before .t .given .1)
 
 same-length-2 : tie.Need-same-length-2
 same-length-2 c = search needs
@@ -42,7 +42,7 @@ returns-2 : tie.Need-returns-2
 returns-2 c =
     let start = c .before .before .before .before .before .before .before .before .before in
     let a = start .args in
-    barred-moves to-remove (a .at) (a .ws .now) (c .before .why .given .0 .0) refl (c .before .before .before .admit .ensures .shut (c .before .why .given .0 .0) (cc))
+    barred-moves to-remove (a .at) (a .ws .now) (c .before .why .given .0 .0) refl (c .before .before .before .admit .ensures .shut (c .before .why .given .0 .0) (c .before .why .given .1))
 
 same-length-3 : tie.Need-same-length-3
 same-length-3 c = search needs

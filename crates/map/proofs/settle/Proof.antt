@@ -30,13 +30,13 @@ sound-settle-requires : tie.Need-sound-settle-requires
 sound-settle-requires c κs =
     let start = c .before .before .before .before .before .before .before in
     let a = start .args in
-    admit-stood (a .ws .now) (a .at) _ (c .before .before .before .admit .ensures) (c .before .t .given .0 .0) (cc)
+    admit-stood (a .ws .now) (a .at) _ (c .before .before .before .admit .ensures) (c .before .t .given .0 .0) (c .before .t .given .1)
 
 returns-2 : tie.Need-returns-2
 returns-2 c =
     let start = c .before .before .before .before .before .before .before in
     let a = start .args in
-    barred-moves to-settled (a .at) (a .ws .now) (c .before .why .given .0 .0) refl (c .before .before .before .admit .ensures .shut (c .before .why .given .0 .0) (cc))
+    barred-moves to-settled (a .at) (a .ws .now) (c .before .why .given .0 .0) refl (c .before .before .before .admit .ensures .shut (c .before .why .given .0 .0) (c .before .why .given .1))
 
 returns-3 : tie.Need-returns-3
 returns-3 c = search needs

@@ -16,26 +16,26 @@ enum-known-t : tie.Need-enum-known-t
 enum-known-t c = search needs
 
 first-requires : tie.Need-first-requires
-first-requires c κs = c .before .before .before .gate .ensures .passes _ (cc)
+first-requires c κs = c .before .before .before .gate .ensures .passes _ (c .before .t .given .1)
 
 seen-requires : tie.Need-seen-requires
 seen-requires c κs =
     let start = c .before .before .before .before .before .before in
     let a = start .args in
-    let y = c .before .before .before .before .gate .ensures .passes (c .before .before .t .given .0 .0) (cc) in
+    let y = c .before .before .before .before .gate .ensures .passes (c .before .before .t .given .0 .0) (c .before .before .t .given .1) in
     (gone-ready first (λ x g. fits-start (leaves x) 0) (a .ws .now) _ (a .at .tree) _ y (c .first .ensures), gone-standing first (λ x g. fits-start (leaves x) 0) (a .ws .now) _ (a .at .tree) _ y (c .first .ensures))
 
 returns : tie.Need-returns
 returns c =
     let start = c .before .before .before .before .before in
     let a = start .args in
-    closed-moves to-first (a .at) (a .ws .now) (c .before .why .given .0 .0) (c .before .before .before .gate .ensures .shut (c .before .why .given .0 .0) (cc))
+    closed-moves to-first (a .at) (a .ws .now) (c .before .why .given .0 .0) (c .before .before .before .gate .ensures .shut (c .before .why .given .0 .0) (c .before .why .given .1))
 
 returns-2 : tie.Need-returns-2
 returns-2 c =
     let start = c .before .before .before .before .before .before .before in
     let a = start .args in
-    let y = c .before .before .before .before .before .gate .ensures .passes (c .before .before .before .t .given .0 .0) (cc) in
+    let y = c .before .before .before .before .before .gate .ensures .passes (c .before .before .before .t .given .0 .0) (c .before .before .before .t .given .1) in
     first-moves (a .ws .now) _ (a .at) y _ _ (c .before .first .ensures) (c .seen .ensures)
 
 pub sound-first-spec : {M : Type 1} → statement M

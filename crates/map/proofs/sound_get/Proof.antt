@@ -14,7 +14,7 @@ enum-known-t : tie.Need-enum-known-t
 enum-known-t c = search needs
 
 look-for-requires : tie.Need-look-for-requires
-look-for-requires c κs = c .before .before .before .gate .ensures .passes _ (cc)
+look-for-requires c κs = c .before .before .before .gate .ensures .passes _ (c .before .t .given .1)
 
 held-requires : tie.Need-held-requires
 held-requires c κs = search needs
@@ -23,13 +23,13 @@ returns : tie.Need-returns
 returns c =
     let start = c .before .before .before .before .before in
     let a = start .args in
-    closed-calls (get (a .tree) (a .key)) (a .ws .now) (c .before .why .given .0 .0) (c .before .before .before .gate .ensures .shut (c .before .why .given .0 .0) (cc))
+    closed-calls (get (a .tree) (a .key)) (a .ws .now) (c .before .why .given .0 .0) (c .before .before .before .gate .ensures .shut (c .before .why .given .0 .0) (c .before .why .given .1))
 
 returns-2 : tie.Need-returns-2
 returns-2 c =
     let start = c .before .before .before .before .before .before .before in
     let a = start .args in
-    let y = c .before .before .before .before .before .gate .ensures .passes (c .before .before .before .t .given .0 .0) (cc) in
+    let y = c .before .before .before .before .before .gate .ensures .passes (c .before .before .before .t .given .0 .0) (c .before .before .before .t .given .1) in
     let l = c .before .look-for .ensures in
     get-calls (a .ws .now) _ (a .tree) (a .key) y _ _ _ (l .goes) (l .sees) (c .held .ensures)
 

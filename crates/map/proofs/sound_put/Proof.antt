@@ -14,7 +14,7 @@ enum-known-t : tie.Need-enum-known-t
 enum-known-t c = search needs
 
 put-requires : tie.Need-put-requires
-put-requires c κs = c .before .before .before .before .gate .ensures .passes (c .before .before .t .given .0 .0) (cc)
+put-requires c κs = c .before .before .before .before .gate .ensures .passes (c .before .before .t .given .0 .0) (c .before .before .t .given .1)
 
 same-length : tie.Need-same-length
 same-length c = search needs
@@ -23,7 +23,7 @@ returns : tie.Need-returns
 returns c =
     let start = c .before .before .before .before .before .before in
     let a = start .args in
-    closed-calls (put (a .tree) (a .key) (a .value)) (a .ws .now) (c .before .why .given .0 .0) (c .before .before .before .gate .ensures .shut (c .before .why .given .0 .0) (cc))
+    closed-calls (put (a .tree) (a .key) (a .value)) (a .ws .now) (c .before .why .given .0 .0) (c .before .before .before .gate .ensures .shut (c .before .why .given .0 .0) (c .before .why .given .1))
 
 same-length-2 : tie.Need-same-length-2
 same-length-2 c = search needs
@@ -32,7 +32,7 @@ returns-2 : tie.Need-returns-2
 returns-2 c =
     let start = c .before .before .before .before .before .before .before .before .before .before in
     let a = start .args in
-    let y = c .before .before .before .before .before .before .before .gate .ensures .passes (c .before .before .before .before .before .t .given .0 .0) (cc) in
+    let y = c .before .before .before .before .before .before .before .gate .ensures .passes (c .before .before .before .before .before .t .given .0 .0) (c .before .before .before .before .before .t .given .1) in
     put-calls (a .ws .now) _ _ (a .tree) (a .key) (a .value) _ y (c .before .before .put .ensures)
 
 pub sound-put-spec : {M : Type 1} → statement M

@@ -21,7 +21,7 @@ enum-known-t c = search needs
 
 root-requires : tie.Need-root-requires
 root-requires c κs =
-    let y = c .before .before .before .before .gate .ensures .passes (c .before .before .t .given .0 .0) (cc) in
+    let y = c .before .before .before .before .gate .ensures .passes (c .before .before .t .given .0 .0) (c .before .before .t .given .1) in
     omega (arith, root-place (c .before .before .before .before .before .before .before .args .ws .now) _ (c .before .before .before .before .before .before .before .args .tree) y)
 
 same-length : tie.Need-same-length
@@ -30,19 +30,19 @@ same-length c = search needs
 returns : tie.Need-returns
 returns c =
     let a = c .before .before .before .before .before .before .before .before .before .args in
-    let y = c .before .before .before .before .before .before .gate .ensures .passes (c .before .before .before .before .t .given .0 .0) (cc) in
+    let y = c .before .before .before .before .before .before .gate .ensures .passes (c .before .before .before .before .t .given .0 .0) (c .before .before .before .before .t .given .1) in
     empty-calls (a .ws .now) _ (a .tree) (a .key) _ y (c .before .root .ensures) (c .if1 .taken)
 
 find-leaf-requires : tie.Need-find-leaf-requires
 find-leaf-requires c κs =
     let a = c .before .before .before .before .before .before .before .before .before .before .args in
-    let y = c .before .before .before .before .before .before .before .gate .ensures .passes (c .before .before .before .before .before .t .given .0 .0) (cc) in
+    let y = c .before .before .before .before .before .before .before .gate .ensures .passes (c .before .before .before .before .before .t .given .0 .0) (c .before .before .before .before .before .t .given .1) in
     (y, root-some (a .ws .now) _ (a .tree) (a .key) _ y (c .before .before .root .ensures) (c .before .if1 .left))
 
 look-in-requires : tie.Need-look-in-requires
 look-in-requires c κs =
     let a = c .before .before .before .before .before .before .before .before .before .before .before .before .args in
-    let y = c .before .before .before .before .before .before .before .before .before .gate .ensures .passes (c .before .before .before .before .before .before .before .t .given .0 .0) (cc) in
+    let y = c .before .before .before .before .before .before .before .before .before .gate .ensures .passes (c .before .before .before .before .before .before .before .t .given .0 .0) (c .before .before .before .before .before .before .before .t .given .1) in
     let d = c .before .find-leaf .ensures in
     (ends-in (a .ws .now) _ (a .tree) y (a .key) _ _ d, place-few (a .ws .now) _ (a .tree) (a .key) _ _ y d)
 
@@ -58,7 +58,7 @@ same-length-2 c = search needs
 returns-2 : tie.Need-returns-2
 returns-2 c =
     let a = c .before .before .before .before .before .before .before .before .before .before .before .before .before .before .before .args in
-    let y = c .before .before .before .before .before .before .before .before .before .before .before .before .gate .ensures .passes (c .before .before .before .before .before .before .before .before .before .before .t .given .0 .0) (cc) in
+    let y = c .before .before .before .before .before .before .before .before .before .before .before .before .gate .ensures .passes (c .before .before .before .before .before .before .before .before .before .before .t .given .0 .0) (c .before .before .before .before .before .before .before .before .before .before .t .given .1) in
     let o = ends-looks (a .ws .now) _ (a .tree) y (a .key) _ _ (c .before .before .before .before .find-leaf .ensures) in
     absent-calls (a .ws .now) _ (a .tree) (a .key) y _ o (held-nothing _ _ (sym (c .before .before .look-in .ensures) ∙ c .enum-told .given .1))
 
@@ -68,14 +68,14 @@ same-length-3 c = search needs
 returns-3 : tie.Need-returns-3
 returns-3 c =
     let a = c .before .before .before .before .before .before .before .before .before .before .before .before .before .before .before .before .before .args in
-    let y = c .before .before .before .before .before .before .before .before .before .before .before .before .before .before .gate .ensures .passes (c .before .before .before .before .before .before .before .before .before .before .before .before .t .given .0 .0) (cc) in
+    let y = c .before .before .before .before .before .before .before .before .before .before .before .before .before .before .gate .ensures .passes (c .before .before .before .before .before .before .before .before .before .before .before .before .t .given .0 .0) (c .before .before .before .before .before .before .before .before .before .before .before .before .t .given .1) in
     let o = ends-looks (a .ws .now) _ (a .tree) y (a .key) _ _ (c .before .before .before .before .before .before .find-leaf .ensures) in
     absent-calls (a .ws .now) _ (a .tree) (a .key) y _ o (sym (held-other _ _ _ _ (sym (c .before .before .before .before .look-in .ensures) ∙ c .before .before .look .given .1) (c .if2 .taken)))
 
 remove-key-requires : tie.Need-remove-key-requires
 remove-key-requires c κs =
     let a = c .before .before .before .before .before .before .before .before .before .before .before .before .before .before .before .before .before .before .args in
-    let y = c .before .before .before .before .before .before .before .before .before .before .before .before .before .before .before .gate .ensures .passes (c .before .before .before .before .before .before .before .before .before .before .before .before .before .t .given .0 .0) (cc) in
+    let y = c .before .before .before .before .before .before .before .before .before .before .before .before .before .before .before .gate .ensures .passes (c .before .before .before .before .before .before .before .before .before .before .before .before .before .t .given .0 .0) (c .before .before .before .before .before .before .before .before .before .before .before .before .before .t .given .1) in
     ask-key (a .ws .now) _ (a .tree) (a .key) _ _ y (c .before .before .before .before .before .before .before .find-leaf .ensures) _ _ (sym (c .before .before .before .before .before .look-in .ensures) ∙ c .before .before .before .look .given .1)
 
 same-length-4 : tie.Need-same-length-4
@@ -85,7 +85,7 @@ returns-4 : tie.Need-returns-4
 returns-4 c =
     let start = c .before .before .before .before .before .before in
     let a = start .args in
-    closed-calls (remove (a .tree) (a .key)) (a .ws .now) (c .before .why .given .0 .0) (c .before .before .before .gate .ensures .shut (c .before .why .given .0 .0) (cc))
+    closed-calls (remove (a .tree) (a .key)) (a .ws .now) (c .before .why .given .0 .0) (c .before .before .before .gate .ensures .shut (c .before .why .given .0 .0) (c .before .why .given .1))
 
 same-length-5 : tie.Need-same-length-5
 same-length-5 c = search needs
@@ -93,7 +93,7 @@ same-length-5 c = search needs
 returns-5 : tie.Need-returns-5
 returns-5 c =
     let a = c .before .before .before .before .before .before .before .before .before .before .before .before .before .before .before .before .before .before .before .before .before .args in
-    let y = c .before .before .before .before .before .before .before .before .before .before .before .before .before .before .before .before .before .before .gate .ensures .passes (c .before .before .before .before .before .before .before .before .before .before .before .before .before .before .before .before .t .given .0 .0) (cc) in
+    let y = c .before .before .before .before .before .before .before .before .before .before .before .before .before .before .before .before .before .before .gate .ensures .passes (c .before .before .before .before .before .before .before .before .before .before .before .before .before .before .before .before .t .given .0 .0) (c .before .before .before .before .before .before .before .before .before .before .before .before .before .before .before .before .t .given .1) in
     let o = ends-looks (a .ws .now) _ (a .tree) y (a .key) _ _ (c .before .before .before .before .before .before .before .before .before .before .find-leaf .ensures) in
     removed-calls (a .ws .now) _ (a .tree) (a .key) y _ o _ _ (sym (c .before .before .before .before .before .before .before .before .look-in .ensures) ∙ c .before .before .before .before .before .before .look .given .1) (c .before .before .before .before .if2 .left) _ (c .before .before .remove-key .ensures)
 

@@ -15,13 +15,13 @@ enum-known-t : tie.Need-enum-known-t
 enum-known-t c = search needs
 
 find-requires : tie.Need-find-requires
-find-requires c κs = c .before .before .before .gate .ensures .passes _ (cc)
+find-requires c κs = c .before .before .before .gate .ensures .passes _ (c .before .t .given .1)
 
 look-at-requires : tie.Need-look-at-requires
 look-at-requires c κs =
     let start = c .before .before .before .before .before .before in
     let a = start .args in
-    let y = c .before .before .before .before .gate .ensures .passes (c .before .before .t .given .0 .0) (cc) in
+    let y = c .before .before .before .before .gate .ensures .passes (c .before .before .t .given .0 .0) (c .before .before .t .given .1) in
     (gone-ready (seek (a .key)) (fits-seek (a .key)) (a .ws .now) _ (a .at .tree) _ y (c .find .ensures), gone-standing (seek (a .key)) (fits-seek (a .key)) (a .ws .now) _ (a .at .tree) _ y (c .find .ensures))
 
 held-requires : tie.Need-held-requires
@@ -31,13 +31,13 @@ returns : tie.Need-returns
 returns c =
     let start = c .before .before .before .before .before in
     let a = start .args in
-    closed-moves (to-key (a .key)) (a .at) (a .ws .now) (c .before .why .given .0 .0) (c .before .before .before .gate .ensures .shut (c .before .why .given .0 .0) (cc))
+    closed-moves (to-key (a .key)) (a .at) (a .ws .now) (c .before .why .given .0 .0) (c .before .before .before .gate .ensures .shut (c .before .why .given .0 .0) (c .before .why .given .1))
 
 returns-2 : tie.Need-returns-2
 returns-2 c =
     let start = c .before .before .before .before .before .before .before .before in
     let a = start .args in
-    let y = c .before .before .before .before .before .before .gate .ensures .passes (c .before .before .before .before .t .given .0 .0) (cc) in
+    let y = c .before .before .before .before .before .before .gate .ensures .passes (c .before .before .before .before .t .given .0 .0) (c .before .before .before .before .t .given .1) in
     seek-moves (a .ws .now) _ (a .at) y (a .key) _ _ _ (c .before .before .find .ensures) (c .before .look-at .ensures) (c .held .ensures)
 
 pub sound-seek-spec : {M : Type 1} → statement M

@@ -16,13 +16,13 @@ returns : tie.Need-returns
 returns c =
     let start = c .before .before .before .before .before in
     let a = start .args in
-    told-no (a .ws .now) (a .at) _ (c .before .before .before .admit .ensures) (c .before .why .given .0 .0) (cc) (start .pre)
+    told-no (a .ws .now) (a .at) _ (c .before .before .before .admit .ensures) (c .before .why .given .0 .0) (c .before .why .given .1) (start .pre)
 
 returns-2 : tie.Need-returns-2
 returns-2 c =
     let start = c .before .before .before .before .before in
     let a = start .args in
-    told-yes (a .ws .now) (a .at) _ (c .before .before .before .admit .ensures) (c .before .t .given .0 .0) (cc)
+    told-yes (a .ws .now) (a .at) _ (c .before .before .before .admit .ensures) (c .before .t .given .0 .0) (c .before .t .given .1)
 
 pub sound-stands-spec : {M : Type 1} → statement M
 sound-stands-spec =
