@@ -69,9 +69,6 @@ module _ (ws : List ℕ) (t : ℕ) (c : Cursor) where
     pub seat-entries : getD ws (base t (getD (c .nodes) (c .size - 1) 0)) 0 ≡ 32 + sizeAt (u .L) (u .j)
     seat-entries = rw (leaf-node ws t c p s u) (leaf-entries ws t c p s u) ∙ ap (32 +_) (length-items (u .L) (u .j))
 
-    pub seat-entry : getD (c .places) (c .size - 1) 0 ≡ u .e
-    seat-entry = leaf-place ws t c p s u
-
     seat-spot : (f : Row → Spot → Spot) → f (leaves (treeOf p (c .tree))) s ≡ f (u .L) (on (u .j) (u .e))
     seat-spot f = rw (row-is ws t c p s u, u .spot-is)
 
@@ -91,7 +88,7 @@ module _ (ws : List ℕ) (t : ℕ) (c : Cursor) where
     step-entry k r q g = record {
       to = λ p s o a.
           let u = seat ws t c y h p s o a in
-          let e : f (leaves (treeOf p (c .tree))) s ≡ on (u .j) k = seat-spot p s u f ∙ (g (u .L) (u .j) (u .e) (seat-entries p s u) (seat-entry p s u)) in
+          let e : f (leaves (treeOf p (c .tree))) s ≡ on (u .j) k = seat-spot p s u f ∙ (g (u .L) (u .j) (u .e) (seat-entries p s u) (leaf-place ws t c p s u)) in
           q ∙ entered-path p s u k ∙ ap (cursorAt (c .tree)) (sym (ap (pathOf (treeOf p (c .tree))) e ∙ ap (λ (x : Tree). pathOf x (on (u .j) k)) (u .tree-is)));
     }
 
@@ -100,7 +97,7 @@ module _ (ws : List ℕ) (t : ℕ) (c : Cursor) where
     step-none g = record {
       to = λ p s o a.
           let u = seat ws t c y h p s o a in
-          let e : f (leaves (treeOf p (c .tree))) s ≡ s = seat-spot p s u f ∙ g (u .L) (u .j) (u .e) (seat-entries p s u) (seat-entry p s u) ∙ sym (u .spot-is) in
+          let e : f (leaves (treeOf p (c .tree))) s ≡ s = seat-spot p s u f ∙ g (u .L) (u .j) (u .e) (seat-entries p s u) (leaf-place ws t c p s u) ∙ sym (u .spot-is) in
           sym (ap (λ (v : Spot). cursorAt (c .tree) (pathOf (treeOf p (c .tree)) v)) e ∙ a .same);
     }
 
@@ -110,7 +107,7 @@ module _ (ws : List ℕ) (t : ℕ) (c : Cursor) where
     step-as g r x q = record {
       to = λ p s o a.
           let u = seat ws t c y h p s o a in
-          let e : f (leaves (treeOf p (c .tree))) s ≡ g (leaves (treeOf p (c .tree))) s = seat-spot p s u f ∙ q (u .L) (u .j) (u .e) (seat-entries p s u) (seat-entry p s u) ∙ sym (seat-spot p s u g) in
+          let e : f (leaves (treeOf p (c .tree))) s ≡ g (leaves (treeOf p (c .tree))) s = seat-spot p s u f ∙ q (u .L) (u .j) (u .e) (seat-entries p s u) (leaf-place ws t c p s u) ∙ sym (seat-spot p s u g) in
           x .to p s o a ∙ ap (λ (v : Spot). cursorAt (c .tree) (pathOf (treeOf p (c .tree)) v)) (sym e);
     }
 
