@@ -1,5 +1,5 @@
 // A pool of six levels.
-ghost use Prim.Native.Nat.{_≤_, _<_};
+ghost use Prim.Native.Nat.{_+_, _*_, _≤_, _<_};
 
 // The number of entries of leaf j.
 fn entries(j: u32) -> u32
@@ -74,26 +74,29 @@ fn children(i: u32, count: u32, last: u32) -> u32
     last
 }
 
+// Word p of the i-th of `count` inner nodes of a level; `first` is the number of the first node of the level below.
+fn level_word(level: u32, i: u32, count: u32, first: u32, p: u32) -> u32
+    requires { ⌜ (i ≤ 64) × (4 * i + first < 512) ⌝ }
+{
+    inner_word(level, children(i, count, 1), 4 * i, 4 * i + first, p)
+}
+
 // Word p of the node after n others. The leaves come first, then the inner nodes level by level.
 fn node_word(n: u32, p: u32) -> u32 {
     if n < 257 {
         return leaf_word(n, p);
     }
     if n < 322 {
-        let i = n - 257;
-        return inner_word(0, children(i, 65, 1), 4 * i, 4 * i + 1, p);
+        return level_word(0, n - 257, 65, 1, p);
     }
     if n < 339 {
-        let i = n - 322;
-        return inner_word(1, children(i, 17, 1), 4 * i, 4 * i + 258, p);
+        return level_word(1, n - 322, 17, 258, p);
     }
     if n < 344 {
-        let i = n - 339;
-        return inner_word(2, children(i, 5, 1), 4 * i, 4 * i + 323, p);
+        return level_word(2, n - 339, 5, 323, p);
     }
     if n < 346 {
-        let i = n - 344;
-        return inner_word(3, children(i, 2, 1), 4 * i, 4 * i + 340, p);
+        return level_word(3, n - 344, 2, 340, p);
     }
     if n == 346 {
         return inner_word(4, 2, 0, 345, p);
