@@ -37,6 +37,10 @@ lastly-items ws e a b k c h = elim (test (eqb k c)) [
 abbrev pub ok-of : List ℕ → ℕ → ℕ → Walked
 ok-of ms low q = record { ok = true; marks = ms; low = low; next = q }
 
+-- what is left of the walk over the inner node at b, of c children, from its k-th on
+unfoldable pub left-of : List ℕ → ℕ → ℕ → ℕ → Bool → ℕ → ℕ → ℕ → List ℕ → ℕ → ℕ → Walked
+left-of ws T N h e b c k ms low q = rest (walk ws T N leafLeast (h - 1)) e (items ws (b + k) (b + 8 + k) (c - k)) (ok-of ms low q)
+
 module _ (ws : List ℕ) (T N : ℕ) (e : Bool) (n : ℕ) (ms : List ℕ) (q : ℕ) where
   abbrev p : ℕ
   p = place T n
@@ -60,60 +64,58 @@ module _ (ws : List ℕ) (T N : ℕ) (e : Bool) (n : ℕ) (ms : List ℕ) (q : �
       let d : getD ws p 0 - 16 ≡ getD ws p 0 - 15 - 1 = omega arith in
       rw d (lastly-items ws e (p + 1) (p + 9) 1 (getD ws p 0 - 15) (omega arith))
 
-  pub walk-first-no : (h : ℕ) (x y : Walked) → (h ≡ 0 → ⊥) → meets N ms n ≡ true → innerFits ws p e ≡ true →
-      y ≡ walk ws T N leafLeast (h - 1) (atEnd e 1 (getD ws p 0 - 15)) (getD ws (p + 8) 0) (mark ms n) q → y .ok ≡ false → x ≡ bad → x ≡ walk ws T N leafLeast h e n ms q
-  unfolding innerWalk
-  walk-first-no zero x y z f i w o d = absurd (z refl)
-  walk-first-no (suc h) x y z f i w o d =
-      let s : suc h - 1 ≡ h = omega arith in
-      let v : walk ws T N leafLeast h (atEnd e 1 (getD ws p 0 - 15)) (getD ws (p + 8) 0) (mark ms n) q .ok ≡ false = ap (λ (u : Walked). u .ok) (sym (rw s at w)) ∙ o in
-      d ∙ rw (f, i, first-flag i, v)
+  -- y is the walk over the first child: v is its edge, m the marks before it
+  module _ (h : ℕ) (z : h ≡ 0 → ⊥) (f : meets N ms n ≡ true) (i : innerFits ws p e ≡ true) (y : Walked) (v : Bool) (m : List ℕ) (g : v ≡ atEnd e 1 (getD ws p 0 - 15)) (j : m ≡ mark ms n)
+      (w : y ≡ walk ws T N leafLeast (h - 1) v (getD ws (p + 8) 0) m q) where
+    levels : h ≡ suc (h - 1)
+    levels = omega arith
 
-  pub walk-rest : (h : ℕ) (y : Walked) → (h ≡ 0 → ⊥) → meets N ms n ≡ true → innerFits ws p e ≡ true →
-      y ≡ walk ws T N leafLeast (h - 1) (atEnd e 1 (getD ws p 0 - 15)) (getD ws (p + 8) 0) (mark ms n) q → y .ok ≡ true →
-      rest (walk ws T N leafLeast (h - 1)) e (items ws (p + 1) (p + 8 + 1) (getD ws p 0 - 15 - 1)) (ok-of (y .marks) (y .low) (y .next)) ≡ walk ws T N leafLeast h e n ms q
-  unfolding innerWalk
-  walk-rest zero y z f i w o = absurd (z refl)
-  walk-rest (suc h) y z f i w o =
-      let s : suc h - 1 ≡ h = omega arith in
-      let a : p + 8 + 1 ≡ p + 9 = omega arith in
-      let b : getD ws p 0 - 15 - 1 ≡ getD ws p 0 - 16 = omega arith in
-      let x = walk ws T N leafLeast h (atEnd e 1 (getD ws p 0 - 15)) (getD ws (p + 8) 0) (mark ms n) q in
-      let g : y ≡ walk ws T N leafLeast h (atEnd e 1 (getD ws p 0 - 15)) (getD ws (p + 8) 0) (mark ms n) q = rw s at w in
-      let v : walk ws T N leafLeast h (atEnd e 1 (getD ws p 0 - 15)) (getD ws (p + 8) 0) (mark ms n) q .ok ≡ true = ap (λ (u : Walked). u .ok) (sym g) ∙ o in
-      rw (f, i, first-flag i, v, s, a, b) (ap (λ (u : Walked). rest (walk ws T N leafLeast h) e (others ws p) (ok-of (u .marks) (u .low) (u .next))) g)
+    first-walk : walk ws T N leafLeast (h - 1) (lastly e (others ws p)) (getD ws (p + 8) 0) (mark ms n) q ≡ y
+    first-walk = rw (first-flag i, ← g, ← j) (sym w)
 
--- the loop
-module _ (ws : List ℕ) (f : Bool → ℕ → List ℕ → ℕ → Walked) (e : Bool) (b c k : ℕ) (ms : List ℕ) (low q : ℕ) where
+    pub walk-first-no : (x : Walked) → y .ok ≡ false → x ≡ bad → x ≡ walk ws T N leafLeast h e n ms q
+    unfolding innerWalk
+    walk-first-no x o d = d ∙ rw (levels, f, i, first-walk, o)
+
+    pub walk-rest : (r : Walked) → left-of ws T N h e p (getD ws p 0 - 15) 1 (y .marks) (y .low) (y .next) ≡ r → y .ok ≡ true → r ≡ walk ws T N leafLeast h e n ms q
+    unfolding innerWalk left-of
+    walk-rest r d o =
+        let a : p + 8 + 1 ≡ p + 9 = omega arith in
+        let b : getD ws p 0 - 15 - 1 ≡ getD ws p 0 - 16 = omega arith in
+        let s : suc (h - 1) - 1 ≡ h - 1 = omega arith in
+        sym d ∙ rw (levels, f, i, first-walk, o, s, a, b)
+
+-- a turn of the loop leaves fewer children
+pub fewer : (k c : ℕ) → k < c → c - (k + 1) < c - k
+fewer k c l = omega arith
+
+-- the loop: y is the walk over the child after the first k, v is its edge
+module _ (ws : List ℕ) (T N h : ℕ) (e : Bool) (b c k : ℕ) (ms : List ℕ) (low q : ℕ) where
   abbrev here : Walked
-  here = rest f e (items ws (b + k) (b + 8 + k) (c - k)) (ok-of ms low q)
+  here = left-of ws T N h e b c k ms low q
 
-  module _ (h : k < c) (y : Walked) (w : y ≡ f (atEnd e (k + 1) c) (getD ws (b + 8 + k) 0) ms q) where
+  module _ (l : k < c) (y : Walked) (v : Bool) (g : v ≡ atEnd e (k + 1) c) (w : y ≡ walk ws T N leafLeast (h - 1) v (getD ws (b + 8 + k) 0) ms q) where
     one-more : c - k ≡ suc (c - (k + 1))
     one-more = omega arith
 
-    flag : lastly e (items ws (suc (b + k)) (suc (b + 8 + k)) (c - (k + 1))) ≡ atEnd e (k + 1) c
-    flag = lastly-items ws e (suc (b + k)) (suc (b + 8 + k)) (k + 1) c (omega arith)
+    child : walk ws T N leafLeast (h - 1) (lastly e (items ws (suc (b + k)) (suc (b + 8 + k)) (c - (k + 1)))) (getD ws (b + 8 + k) 0) ms q ≡ y
+    child = rw (lastly-items ws e (suc (b + k)) (suc (b + 8 + k)) (k + 1) c (omega arith), ← g) (sym w)
 
-    pub rest-no : y .ok ≡ false → bad ≡ here
-    rest-no o =
-        let v : f (atEnd e (k + 1) c) (getD ws (b + 8 + k) 0) ms q .ok ≡ false = ap (λ (u : Walked). u .ok) (sym w) ∙ o in
-        rw (one-more, flag, v)
+    pub rest-no : (x r : Walked) → here ≡ r → x ≡ bad → y .ok ≡ false → x ≡ r
+    unfolding left-of
+    rest-no x r a d o = d ∙ rw (one-more, child, o) at a
 
-    pub rest-low : y .ok ≡ true → (y .low ≡ getD ws (b + k) 0 → ⊥) → bad ≡ here
-    rest-low o l =
-        let v : f (atEnd e (k + 1) c) (getD ws (b + 8 + k) 0) ms q .ok ≡ true = ap (λ (u : Walked). u .ok) (sym w) ∙ o in
-        let z : f (atEnd e (k + 1) c) (getD ws (b + 8 + k) 0) ms q .low ≡ y .low = ap (λ (u : Walked). u .low) (sym w) in
-        rw (one-more, flag, v, z, ne-eqb (y .low) (getD ws (b + k) 0) l)
+    pub rest-low : (x r : Walked) → here ≡ r → x ≡ bad → y .ok ≡ true → (y .low ≡ getD ws (b + k) 0 → ⊥) → x ≡ r
+    unfolding left-of
+    rest-low x r a d o j = d ∙ rw (one-more, child, o, ne-eqb (y .low) (getD ws (b + k) 0) j) at a
 
-    pub rest-on : y .ok ≡ true → y .low ≡ getD ws (b + k) 0 → here ≡ rest f e (items ws (b + (k + 1)) (b + 8 + (k + 1)) (c - (k + 1))) (ok-of (y .marks) low (y .next))
-    rest-on o l =
-        let v : f (atEnd e (k + 1) c) (getD ws (b + 8 + k) 0) ms q .ok ≡ true = ap (λ (u : Walked). u .ok) (sym w) ∙ o in
-        let z : f (atEnd e (k + 1) c) (getD ws (b + 8 + k) 0) ms q .low ≡ y .low = ap (λ (u : Walked). u .low) (sym w) in
+    pub rest-on : (r : Walked) → r ≡ here → y .ok ≡ true → y .low ≡ getD ws (b + k) 0 → r ≡ left-of ws T N h e b c (k + 1) (y .marks) low (y .next)
+    unfolding left-of
+    rest-on r a o j =
         let s : b + (k + 1) ≡ suc (b + k) = omega arith in
         let t : b + 8 + (k + 1) ≡ suc (b + 8 + k) = omega arith in
-        rw (one-more, flag, v, z, eq-eqb (y .low) (getD ws (b + k) 0) l, s, t)
-        (ap (λ (u : Walked). rest f e (items ws (suc (b + k)) (suc (b + 8 + k)) (c - (k + 1))) (ok-of (u .marks) low (u .next))) (sym w))
+        a ∙ rw (one-more, child, o, eq-eqb (y .low) (getD ws (b + k) 0) j, s, t)
 
-  pub rest-end : c ≤ k → here ≡ ok-of ms low q
-  rest-end h = let d : c - k ≡ 0 = omega arith in rw d
+  pub rest-end : (r : Walked) → here ≡ r → c ≤ k → ok-of ms low q ≡ r
+  unfolding left-of
+  rest-end r a l = let d : c - k ≡ 0 = omega arith in rw d at a
