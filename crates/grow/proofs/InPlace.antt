@@ -180,6 +180,9 @@ module _ (ws : List ℕ) (t n p : ℕ) (g : LeafPlace ws t n p) where
     pub key-asks : p < length (take (lent 1) (drop (base t n + 1) ws))
     key-asks = rw (part-of fore (leafWords items) rear ws around (base t n) fore-length 1 (lent 1) (omega (arith, lent-is 1, sixteen, roomy))) (long (leafWords items) 1 sixteen (omega arith))
 
+    pub key-ends : base t n + 2 + (getD ws (base t n) 0 - 32) ≤ length ws
+    key-ends = omega (arith, g .placed .room)
+
     module _ (ks : List ℕ) (e : ks ≡ inserted (take (lent 1) (drop (base t n + 1) ws)) p key) where
       abbrev half : List ℕ
       half = keyed items p key
@@ -199,6 +202,9 @@ module _ (ws : List ℕ) (t n p : ℕ) (g : LeafPlace ws t n p) where
 
       pub value-asks : p < length (take (lent 8) (drop (base t n + 8) once))
       value-asks = rw (part-of fore half rear once half-way (base t n) fore-length 8 (lent 8) (omega (arith, lent-is 8, half-length, roomy))) (long half 8 half-length (omega arith))
+
+      pub value-ends : base t n + 9 + (getD ws (base t n) 0 - 32) ≤ length once
+      value-ends = rw half-way (simp (length-append, length-pad, fore-length, length-drop) (omega (arith, g .placed .room)))
 
       module _ (vs : List ℕ) (f : vs ≡ inserted (take (lent 8) (drop (base t n + 8) once)) p value) where
         abbrev whole : List ℕ
@@ -233,3 +239,6 @@ module _ (ws : List ℕ) (t n p : ℕ) (g : LeafPlace ws t n p) where
         pub same-words : length whole ≡ length ws
         unfolding filledWords withBlock
         same-words = ap length filled ∙ patched-length ws (leafWords (insertAt p (key, value) items)) (base t n) (omega (arith, g .placed .room, Spelling.leaf-length (insertAt p (key, value) items)))
+
+        pub first-inside : base t n < length (putMid (base t n + 8) (lent 8) once vs)
+        first-inside = rw both-ways (simp (length-append, fore-length) (omega arith))

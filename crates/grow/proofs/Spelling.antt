@@ -1,10 +1,10 @@
 -- PROOFS. On the words over a store: a node taken and made a root, and a node cut in two
 use mathlib.Core.Path.{_≡_}
 use mathlib.Core.List.{List, [], _∷_}
-use Prim.Native.Nat.{ℕ, _-_, _≤_, _<_}
+use Prim.Native.Nat.{ℕ, _+_, _-_, _≤_, _<_}
 use native.Mathlib.Omega.{arith}
 use lib.ListN.{length, drop, getD, set}
-use Rattle.pool.specs.Stores.{Store, put, spell, Sixteen, topNode, takenWords}
+use Rattle.pool.specs.Stores.{Store, put, spell, Sixteen, withBlock, topNode, takenWords}
 use Rattle.pool.proofs.Bridges.{spell-placed, spell-set-root, spell-withBlock}
 use Rattle.pool.proofs.Stacks.{spell-stocked, spell-top, spell-taken}
 use Rattle.grow.specs.Grows.{plantedWords, cutWords, Takes}
@@ -42,3 +42,13 @@ module _ (roots : List ℕ) (N : ℕ) (st : Store) (s : Sixteen st) where
     cut-spell n left right a b e f =
         rw (taken-spell free h l, top-spell free h l, spell-withBlock roots N st (drop 1 free) s n a b left e)
         (spell-withBlock roots N (put st n left) (drop 1 free) (put-sixteen st n left s e) (getD free 0 0) lo hi right f)
+
+-- what plant and cut do, from what each of their calls gives: r is the node taken, a the words then
+module _ (ws : List ℕ) (t r : ℕ) (a : List ℕ) (e : r ≡ topNode ws t) (f : a ≡ takenWords ws t) where
+  pub planted-is : (tree : ℕ) (w b d : List ℕ) → b ≡ withBlock a t r w → d ≡ set b (tree + 1) r → d ≡ plantedWords ws t tree w
+  unfolding plantedWords
+  planted-is tree w b d g h = rw (h, g, f, e)
+
+  pub cut-is : (n : ℕ) (left right b d : List ℕ) → b ≡ withBlock a t n left → d ≡ withBlock b t r right → (r ≡ topNode ws t) × (d ≡ cutWords ws t n left right)
+  unfolding cutWords
+  cut-is n left right b d g h = (e, rw (h, g, f, e))

@@ -1,5 +1,6 @@
 -- `grow::split_and_insert` meets its contract. Each return is one step of `upStore`; the measure is the level. Assumes nothing.
 use Prim.Native.Nat.{ℕ, _<_}
+use mathlib.Core.Path.{_∙_}
 use native.Mathlib.Omega.{arith}
 use borrow.Author.Needs.{needs}
 use Rattle.grow.proofs.Climbs
@@ -76,7 +77,7 @@ split-and-insert-plant-requires t c κs =
     (Steps.top-takes (start .args .ws .now) (start .args .t) (start .args .t3 .tree) (start .args .t3 .nodes) (start .args .t3 .places) (start .args .level) (c .before .before .before .before .if1 .taken) (start .pre .1), Steps.root-in (start .args .ws .now) (start .args .t) (start .args .t3 .tree) (start .args .t3 .nodes) (start .args .t3 .places) (start .pre .1 .scene) (start .args .level) (start .pre .1 .climb .under))
 
 split-and-insert-same-length : (t : ℕ) → split-and-insert-lts.Need-same-length (calls t) (split-and-insert-at t) split-and-insert.Post
-split-and-insert-same-length t c = search needs
+split-and-insert-same-length t c = c .before .ws .given
 
 split-and-insert-returns : (t : ℕ) → split-and-insert-lts.Need-returns (calls t) (split-and-insert-at t) split-and-insert.Post
 split-and-insert-returns t c =
@@ -107,7 +108,7 @@ split-and-insert-cast-at t c = search needs
 split-and-insert-load-requires : (t : ℕ) → split-and-insert-lts.Need-load-requires (calls t) (split-and-insert-at t) split-and-insert.Post
 split-and-insert-load-requires t c κs =
     let start = c .before .before .before .before .before in
-    Climbs.load-up (start .args .ws .now) (start .args .t) (start .args .t3 .tree) (start .args .t3 .nodes) (start .args .t3 .places) (start .args .level) (omega arith) (Steps.climbs-under (start .args .ws .now) (start .args .t) (start .args .t3 .tree) (start .args .t3 .nodes) (start .args .t3 .places) (start .args .level) (start .pre .1))
+    Climbs.load-up (start .args .ws .now) (start .args .t) (start .args .t3 .tree) (start .args .t3 .nodes) (start .args .t3 .places) (start .args .level) (omega (arith, c .before .before .before .if1)) (Steps.climbs-under (start .args .ws .now) (start .args .t) (start .args .t3 .tree) (start .args .t3 .nodes) (start .args .t3 .places) (start .args .level) (start .pre .1))
 
 split-and-insert-array-read-if2 : (t : ℕ) → split-and-insert-lts.Need-array-read-if2 (calls t) (split-and-insert-at t) split-and-insert.Post
 split-and-insert-array-read-if2 t c = search needs
@@ -115,33 +116,33 @@ split-and-insert-array-read-if2 t c = search needs
 split-and-insert-inner-insert-requires : (t : ℕ) → split-and-insert-lts.Need-inner-insert-requires (calls t) (split-and-insert-at t) split-and-insert.Post
 split-and-insert-inner-insert-requires t c κs =
     let start = c .before .before .before .before .before .before .before .before in
-    Steps.insert-asks (start .args .ws .now) (start .args .t) (start .args .t3 .tree) (start .args .t3 .nodes) (start .args .t3 .places) (start .args .level) (omega arith) (c .before .before .load .result) (c .before .before .load .ensures) (start .pre .1 .scene) (start .pre .1 .climb .under) (c .before .if2 .taken)
+    Steps.insert-asks (start .args .ws .now) (start .args .t) (start .args .t3 .tree) (start .args .t3 .nodes) (start .args .t3 .places) (start .args .level) (omega (arith, c .before .before .before .before .before .before .if1)) (c .before .before .load .result) (c .before .before .load .ensures) (start .pre .1 .scene) (start .pre .1 .climb .under) (c .before .if2 .taken)
 
 split-and-insert-store-requires : (t : ℕ) → split-and-insert-lts.Need-store-requires (calls t) (split-and-insert-at t) split-and-insert.Post
 split-and-insert-store-requires t c κs =
     let start = c .before .before .before .before .before .before .before .before .before in
-    Climbs.load-up (start .args .ws .now) (start .args .t) (start .args .t3 .tree) (start .args .t3 .nodes) (start .args .t3 .places) (start .args .level) (omega arith) (Steps.climbs-under (start .args .ws .now) (start .args .t) (start .args .t3 .tree) (start .args .t3 .nodes) (start .args .t3 .places) (start .args .level) (start .pre .1))
+    Climbs.load-up (start .args .ws .now) (start .args .t) (start .args .t3 .tree) (start .args .t3 .nodes) (start .args .t3 .places) (start .args .level) (omega (arith, c .before .before .before .before .before .before .before .if1)) (Steps.climbs-under (start .args .ws .now) (start .args .t) (start .args .t3 .tree) (start .args .t3 .nodes) (start .args .t3 .places) (start .args .level) (start .pre .1))
 
 split-and-insert-same-length-2 : (t : ℕ) → split-and-insert-lts.Need-same-length-2 (calls t) (split-and-insert-at t) split-and-insert.Post
-split-and-insert-same-length-2 t c = search needs
+split-and-insert-same-length-2 t c = c .before .ws2 .given
 
 split-and-insert-returns-2 : (t : ℕ) → split-and-insert-lts.Need-returns-2 (calls t) (split-and-insert-at t) split-and-insert.Post
 split-and-insert-returns-2 t c = λ s g.
     let start = c .before .before .before .before .before .before .before .before .before .before .before .before in
-    Steps.room-done (start .args .ws .now) (start .args .t) (start .args .t3 .tree) (start .args .t3 .nodes) (start .args .t3 .places) s (start .args .level) (omega arith) (start .args .key, start .args .node) g (c .before .before .before .before .before .before .load .result) (c .before .before .before .inner-insert .result) (c .before .before .store .last .0) (c .before .before .before .before .before .before .load .ensures) (c .before .before .before .before .before .if2 .taken) (c .before .before .before .inner-insert .ensures) (c .before .before .store .ensures)
+    Steps.room-done (start .args .ws .now) (start .args .t) (start .args .t3 .tree) (start .args .t3 .nodes) (start .args .t3 .places) s (start .args .level) (omega (arith, c .before .before .before .before .before .before .before .before .before .before .if1)) (start .args .key, start .args .node) g (c .before .before .before .before .before .before .load .result) (c .before .before .before .inner-insert .result) (c .before .before .store .last .0) (c .before .before .before .before .before .before .load .ensures) (c .before .before .before .before .before .if2 .taken) (c .before .before .before .inner-insert .ensures) (c .before .before .store .ensures)
 
 split-and-insert-inner-split-requires : (t : ℕ) → split-and-insert-lts.Need-inner-split-requires (calls t) (split-and-insert-at t) split-and-insert.Post
 split-and-insert-inner-split-requires t c κs =
     let start = c .before .before .before .before .before .before .before in
-    Steps.split-asks (start .args .ws .now) (start .args .t) (start .args .t3 .tree) (start .args .t3 .nodes) (start .args .t3 .places) (start .args .level) (omega arith) (c .before .load .result) (c .before .load .ensures) (start .pre .1 .scene) (start .pre .1 .climb .under) (c .if2 .left)
+    Steps.split-asks (start .args .ws .now) (start .args .t) (start .args .t3 .tree) (start .args .t3 .nodes) (start .args .t3 .places) (start .args .level) (omega (arith, c .before .before .before .before .before .if1)) (c .before .load .result) (c .before .load .ensures) (start .pre .1 .scene) (start .pre .1 .climb .under) (c .if2 .left)
 
 split-and-insert-cut-requires : (t : ℕ) → split-and-insert-lts.Need-cut-requires (calls t) (split-and-insert-at t) split-and-insert.Post
 split-and-insert-cut-requires t c κs =
     let start = c .before .before .before .before .before .before .before .before .before .before .before in
-    Steps.cuts-asks (start .args .ws .now) (start .args .t) (start .args .t3 .tree) (start .args .t3 .nodes) (start .args .t3 .places) (start .args .level) (omega arith) (c .before .before .before .before .before .load .result) (c .before .before .before .before .before .load .ensures) (start .args .key) (start .args .node) (c .before .before .before .inner-split .result) (c .before .before .before .inner-split .ensures) (c .before .before .before .before .if2 .left) (start .pre .1 .scene) (start .pre .1 .climb)
+    Steps.cuts-asks (start .args .ws .now) (start .args .t) (start .args .t3 .tree) (start .args .t3 .nodes) (start .args .t3 .places) (start .args .level) (omega (arith, c .before .before .before .before .before .before .before .before .before .if1)) (c .before .before .before .before .before .load .result) (c .before .before .before .before .before .load .ensures) (start .args .key) (start .args .node) (c .before .before .before .inner-split .result) (c .before .before .before .inner-split .ensures) (c .before .before .before .before .if2 .left) (start .pre .1 .scene) (start .pre .1 .climb)
 
 split-and-insert-sub-split-and-insert : (t : ℕ) → split-and-insert-lts.Need-sub-split-and-insert (calls t) (split-and-insert-at t) split-and-insert.Post
-split-and-insert-sub-split-and-insert t c = search needs
+split-and-insert-sub-split-and-insert t c = omega (arith, c .before .before .before .before .before .before .before .before .before .before .before .before .before .if1)
 
 split-and-insert-split-and-insert-requires :
     (t : ℕ) → split-and-insert-lts.Need-split-and-insert-requires (
@@ -166,15 +167,15 @@ split-and-insert-split-and-insert-requires :
     ) (split-and-insert-at t) split-and-insert.Post
 split-and-insert-split-and-insert-requires t c κs =
     let start = c .before .before .before .before .before .before .before .before .before .before .before .before .before .before .before in (
-      omega arith,
+      omega (arith, c .before .before .before .before .before .before .before .before .before .before .before .before .before .before .before .pre .0, c .before .before .before .before .before .before .before .before .before .before .before .before .before .if1),
       record {
         scene = Steps.cutScene (start .pre .1 .scene) (start .args .key, start .args .node);
-        climb = Steps.climb-asks (start .args .ws .now) (start .args .t) (start .args .t3 .tree) (start .args .t3 .nodes) (start .args .t3 .places) (start .args .level) (omega arith) (c .before .before .before .before .before .before .before .before .before .load .result) (c .before .before .before .before .before .before .before .before .before .load .ensures) (start .args .key) (start .args .node) (c .before .before .before .before .before .before .before .inner-split .result) (c .before .before .before .before .before .before .before .inner-split .ensures) (c .before .before .before .before .before .before .before .before .if2 .left) (start .pre .1 .scene) (start .pre .1 .climb) (c .before .before .before .cut .last .0) (c .before .before .before .cut .ensures .1);
+        climb = Steps.climb-asks (start .args .ws .now) (start .args .t) (start .args .t3 .tree) (start .args .t3 .nodes) (start .args .t3 .places) (start .args .level) (omega (arith, c .before .before .before .before .before .before .before .before .before .before .before .before .before .if1)) (c .before .before .before .before .before .before .before .before .before .load .result) (c .before .before .before .before .before .before .before .before .before .load .ensures) (start .args .key) (start .args .node) (c .before .before .before .before .before .before .before .inner-split .result) (c .before .before .before .before .before .before .before .inner-split .ensures) (c .before .before .before .before .before .before .before .before .if2 .left) (start .pre .1 .scene) (start .pre .1 .climb) (c .before .before .before .cut .last .0) (c .before .before .before .cut .ensures .1);
       },
     )
 
 split-and-insert-same-length-3 : (t : ℕ) → split-and-insert-lts.Need-same-length-3 (calls t) (split-and-insert-at t) split-and-insert.Post
-split-and-insert-same-length-3 t c = search needs
+split-and-insert-same-length-3 t c = c .before .ws4 .given ∙ c .before .before .before .before .before .ws3 .given
 
 split-and-insert-returns-3 : (t : ℕ) → split-and-insert-lts.Need-returns-3 (calls t) (split-and-insert-at t) split-and-insert.Post
 split-and-insert-returns-3 t c = λ s g.

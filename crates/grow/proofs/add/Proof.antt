@@ -27,7 +27,7 @@ insert-requires c κs =
     (search needs, Replacing.fits (start .args .ws .now) (start .args .t) (start .args .c .tree) (start .args .c .nodes) (start .args .c .places) (start .args .c .size - 1) (start .args .key, start .args .value) (c .before .before .before .before .free-count .result) (c .before .before .need .result) (c .before .before .before .before .free-count .ensures) (c .before .before .need .ensures) (c .before .if1 .left) (start .pre .1))
 
 same-length-2 : tie.Need-same-length-2
-same-length-2 c = search needs
+same-length-2 c = c .before .ws .given
 
 returns-2 : tie.Need-returns-2
 returns-2 c =

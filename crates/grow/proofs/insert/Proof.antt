@@ -1,4 +1,5 @@
 -- `grow::insert` meets its contract. A leaf with room, or one that is cut. Assumes nothing.
+use mathlib.Core.Path.{_∙_}
 use Prim.Native.Nat.{_-_}
 use borrow.Author.Needs.{needs}
 use Rattle.grow.proofs.Landings
@@ -32,7 +33,7 @@ try-leaf-insert-requires c κs =
     Landings.leaf-place (start .args .ws .now) (start .args .t) (start .args .t3 .tree) (start .args .t3 .nodes) (start .args .t3 .places) (start .args .t3 .size - 1) (start .pre .1 .scene) (start .pre .1 .entry) (start .pre .1 .landed .land)
 
 same-length : tie.Need-same-length
-same-length c = search needs
+same-length c = c .before .before .ws .given
 
 returns : tie.Need-returns
 returns c = λ s p g.
@@ -67,7 +68,7 @@ split-and-insert-requires c κs =
     }
 
 same-length-2 : tie.Need-same-length-2
-same-length-2 c = search needs
+same-length-2 c = c .before .ws3 .given ∙ c .before .before .before .before .before .ws2 .given ∙ c .before .before .before .before .before .before .before .before .before .before .before .before .before .before .before .ws .given
 
 returns-2 : tie.Need-returns-2
 returns-2 c = λ s p g.

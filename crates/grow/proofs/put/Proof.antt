@@ -1,4 +1,5 @@
 -- `grow::put` meets its contract. An empty tree; the key is there; its leaf has room, or not. Assumes nothing.
+use mathlib.Core.Path.{_∙_}
 use borrow.Author.Needs.{needs}
 use Rattle.grow.proofs.Putting
 use Rattle.grow.proofs.PutAt
@@ -14,7 +15,7 @@ put-first-requires : tie.Need-put-first-requires
 put-first-requires c κs = search needs
 
 same-length : tie.Need-same-length
-same-length c = search needs
+same-length c = c .before .ws .given
 
 returns : tie.Need-returns
 returns c = search needs
@@ -33,7 +34,7 @@ enum-told : tie.Need-enum-told
 enum-told c = search needs
 
 same-length-2 : tie.Need-same-length-2
-same-length-2 c = search needs
+same-length-2 c = c .before .before .before .ws2 .given
 
 returns-2 : tie.Need-returns-2
 returns-2 c =
@@ -46,7 +47,7 @@ try-leaf-insert-requires c κs =
     PutAt.still-place (start .args .ws .now) (start .args .t) (start .args .tree) (start .args .key) (start .args .value) (start .pre) (PutAt.some-root (start .args .ws .now) (start .args .tree) (c .before .before .before .before .before .before .before .before .before .root .result) (c .before .before .before .before .before .before .before .before .before .root .ensures) (c .before .before .before .before .before .before .before .before .if1 .left)) (c .before .before .before .before .before .before .find-leaf .result .node) (c .before .before .before .before .before .before .find-leaf .result .place) (c .before .before .before .before .before .before .find-leaf .ensures) (c .before .before .before .before .replace .last .0) (c .before .before .before .before .replace .result) (c .before .before .before .before .replace .ensures) (Putting.no-value (c .before .before .before .before .replace .result) (c .before .match .keys2))
 
 same-length-3 : tie.Need-same-length-3
-same-length-3 c = search needs
+same-length-3 c = c .before .before .ws3 .given ∙ c .before .before .before .before .before .before .before .ws2 .given
 
 returns-3 : tie.Need-returns-3
 returns-3 c =
@@ -64,7 +65,7 @@ add-requires c κs =
     PutAt.add-asks (start .args .ws .now) (start .args .t) (start .args .tree) (start .args .key) (start .args .value) (start .pre) (PutAt.some-root (start .args .ws .now) (start .args .tree) (c .before .before .before .before .before .before .before .before .before .before .before .before .before .before .before .before .root .result) (c .before .before .before .before .before .before .before .before .before .before .before .before .before .before .before .before .root .ensures) (c .before .before .before .before .before .before .before .before .before .before .before .before .before .before .before .if1 .left)) (c .before .before .before .before .before .before .before .before .before .before .before .before .before .find-leaf .result .node) (c .before .before .before .before .before .before .before .before .before .before .before .before .before .find-leaf .result .place) (c .before .before .before .before .before .before .before .before .before .before .before .before .before .find-leaf .ensures) (c .before .before .before .before .before .before .before .before .before .before .before .replace .last .0) (c .before .before .before .before .before .before .before .before .before .before .before .replace .result) (c .before .before .before .before .before .before .before .before .before .before .before .replace .ensures) (Putting.no-value (c .before .before .before .before .before .before .before .before .before .before .before .replace .result) (c .before .before .before .before .before .before .before .before .match .keys2)) (c .before .before .before .before .before .before .try-leaf-insert .last .0) (c .before .before .before .before .before .before .try-leaf-insert .result) (c .before .before .before .before .before .before .try-leaf-insert .ensures) (c .before .before .before .if2 .left) (c .before .find .result) (c .before .find .ensures)
 
 same-length-4 : tie.Need-same-length-4
-same-length-4 c = search needs
+same-length-4 c = c .before .ws4 .given ∙ c .before .before .before .before .before .before .before .before .ws3 .given ∙ c .before .before .before .before .before .before .before .before .before .before .before .before .before .ws2 .given
 
 returns-4 : tie.Need-returns-4
 returns-4 c =

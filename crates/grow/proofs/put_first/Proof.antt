@@ -27,7 +27,7 @@ plant-requires c κs =
     Putting.plant-asks (start .args .ws .now) (start .args .t) (start .args .tree) (start .args .key) (start .args .value) (start .pre) (c .before .before .before .free-count .result) (c .before .before .before .free-count .ensures) (omega arith)
 
 same-length-2 : tie.Need-same-length-2
-same-length-2 c = search needs
+same-length-2 c = c .before .ws .given
 
 returns-2 : tie.Need-returns-2
 returns-2 c =

@@ -46,13 +46,15 @@ mul-slice-insert : tie.Need-mul-slice-insert
 mul-slice-insert c = search needs
 
 sub-slice-insert : tie.Need-sub-slice-insert
-sub-slice-insert c = search needs
+sub-slice-insert c = omega arith
 
 part-slice-insert-start : tie.Need-part-slice-insert-start
-part-slice-insert-start c = search needs
+part-slice-insert-start c = omega arith
 
 part-slice-insert-end : tie.Need-part-slice-insert-end
-part-slice-insert-end c = search needs
+part-slice-insert-end c =
+    let start = c .before .before .before in
+    InPlace.key-ends (start .args .ws .now) (start .args .t) (start .args .n) (start .args .at) (start .pre) (c .if1 .left) (start .args .key) (start .args .value)
 
 slice-insert-requires : tie.Need-slice-insert-requires
 slice-insert-requires c κs =
@@ -60,25 +62,27 @@ slice-insert-requires c κs =
     InPlace.key-asks (start .args .ws .now) (start .args .t) (start .args .n) (start .args .at) (start .pre) (c .before .if1 .left) (start .args .key) (start .args .value)
 
 add-slice-insert-4 : tie.Need-add-slice-insert-4
-add-slice-insert-4 c = search needs
+add-slice-insert-4 c = omega (arith, c .before .before .before .before .before .before .before .pre .placed, c .before .before .before .before .before .before .before .good)
 
 add-slice-insert-5 : tie.Need-add-slice-insert-5
-add-slice-insert-5 c = search needs
+add-slice-insert-5 c = omega (arith, c .before .before .before .before .before .before .before .pre .placed, c .before .before .before .before .before .before .before .good)
 
 add-slice-insert-6 : tie.Need-add-slice-insert-6
-add-slice-insert-6 c = search needs
+add-slice-insert-6 c = omega (arith, c .before .before .before .before .before .before .before .pre .placed, c .before .before .before .before .before .before .before .good, c .before .before .before .before .if1)
 
 mul-slice-insert-2 : tie.Need-mul-slice-insert-2
-mul-slice-insert-2 c = search needs
+mul-slice-insert-2 c = omega (arith, c .before .before .before .before .before .before .before .pre .placed, c .before .before .before .before .before .before .before .good)
 
 sub-slice-insert-2 : tie.Need-sub-slice-insert-2
-sub-slice-insert-2 c = search needs
+sub-slice-insert-2 c = omega arith
 
 part-slice-insert-start-2 : tie.Need-part-slice-insert-start-2
-part-slice-insert-start-2 c = search needs
+part-slice-insert-start-2 c = omega arith
 
 part-slice-insert-end-2 : tie.Need-part-slice-insert-end-2
-part-slice-insert-end-2 c = search needs
+part-slice-insert-end-2 c =
+    let start = c .before .before .before .before .before .before .before in
+    InPlace.value-ends (start .args .ws .now) (start .args .t) (start .args .n) (start .args .at) (start .pre) (c .before .before .before .before .if1 .left) (start .args .key) (start .args .value) (c .before .before .slice-insert .last .0) (c .before .before .slice-insert .ensures)
 
 slice-insert-requires-2 : tie.Need-slice-insert-requires-2
 slice-insert-requires-2 c κs =
@@ -86,13 +90,15 @@ slice-insert-requires-2 c κs =
     InPlace.value-asks (start .args .ws .now) (start .args .t) (start .args .n) (start .args .at) (start .pre) (c .before .before .before .before .before .if1 .left) (start .args .key) (start .args .value) (c .before .before .before .slice-insert .last .0) (c .before .before .before .slice-insert .ensures)
 
 add-ws : tie.Need-add-ws
-add-ws c = search needs
+add-ws c = omega (arith, c .before .before .before .before .before .before .before .before .if1)
 
 mul-ws : tie.Need-mul-ws
-mul-ws c = search needs
+mul-ws c = omega (arith, c .before .before .before .before .before .before .before .before .before .before .before .pre .placed, c .before .before .before .before .before .before .before .before .before .before .before .good)
 
 slice-write-ws : tie.Need-slice-write-ws
-slice-write-ws c = search needs
+slice-write-ws c =
+    let start = c .before .before .before .before .before .before .before .before .before .before .before in
+    InPlace.first-inside (start .args .ws .now) (start .args .t) (start .args .n) (start .args .at) (start .pre) (c .before .before .before .before .before .before .before .before .if1 .left) (start .args .key) (start .args .value) (c .before .before .before .before .before .before .slice-insert .last .0) (c .before .before .before .before .before .before .slice-insert .ensures) (c .before .before .slice-insert2 .last .0) (c .before .before .slice-insert2 .ensures)
 
 same-length : tie.Need-same-length
 same-length c =
