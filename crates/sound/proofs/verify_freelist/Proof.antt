@@ -1,8 +1,8 @@
 use mathlib.Core.Path.{_≡_, refl, sym, _∙_}
 use mathlib.Core.Bool.{Bool, true, false, not}
-use Prim.Native.Nat.{ℕ, _+_, _-_, _*_, _≤_}
+use Prim.Native.Nat.{ℕ, _+_, _-_, _*_, _/_, _≤_}
 use native.Mathlib.Omega.{arith}
-use lib.ListN.{length, getD}
+use lib.ListN.{length, getD, length-set}
 use borrow.Author.Needs.{needs}
 use borrow.Author.Tests.{not-true, not-false}
 use Rattle.sound.specs.Checks.{freeWalk}
@@ -53,7 +53,6 @@ returns : tie.Need-returns Inv-loop μ-loop
 returns c =
     let m = c .before .before .before .before .loop in
     let a = c .before .before .before .before .before .before .args in
-    let pre = c .before .before .before .before .before .before .pre in
     c .no .ensures ∙ frees-no (a .ws .now) (a .t) (a .n) (a .f) (m .i) (m .all) (a .t + 3 + 16 * a .n) (c .before .before .before .loop-test .taken) (sym (meets-none (a .n) (m .all) (getD (a .ws .now) (a .t + 3 + 16 * a .n + m .i) 0) (c .before .if1 .taken))) ∙ sym (m .inv .2) ∙ frees-start (a .ws .now) (a .t) (a .n) (a .f) (a .t + 3 + 16 * a .n) (a .marks)
 
 no-requires-2 : tie.Need-no-requires-2 Inv-loop μ-loop
@@ -63,47 +62,22 @@ returns-2 : tie.Need-returns-2 Inv-loop μ-loop
 returns-2 c =
     let m = c .before .before .before .before .before .loop in
     let a = c .before .before .before .before .before .before .before .args in
-    let pre = c .before .before .before .before .before .before .before .pre in
     c .no2 .ensures ∙ frees-no (a .ws .now) (a .t) (a .n) (a .f) (m .i) (m .all) (a .t + 3 + 16 * a .n) (c .before .before .before .before .loop-test .taken) (sym (meets-out (a .n) (m .all) (getD (a .ws .now) (a .t + 3 + 16 * a .n + m .i) 0) (c .before .if2 .taken))) ∙ sym (m .inv .2) ∙ frees-start (a .ws .now) (a .t) (a .n) (a .f) (a .t + 3 + 16 * a .n) (a .marks)
 
 sub-j : tie.Need-sub-j Inv-loop μ-loop
-sub-j c =
-    let m = c .before .before .before .before .loop in
-    let a = c .before .before .before .before .before .before .args in
-    let pre = c .before .before .before .before .before .before .pre in
-    let few = pre .0 .few-nodes in
-    omega (arith, few, c .before .if1 .left, c .if2 .left, m .inv .1)
+sub-j c = omega (arith, c .before .before .before .before .before .before .pre .0 .few-nodes, c .before .if1 .left, c .if2 .left)
 
 cast-j : tie.Need-cast-j Inv-loop μ-loop
-cast-j c =
-    let m = c .before .before .before .before .loop in
-    let a = c .before .before .before .before .before .before .args in
-    let pre = c .before .before .before .before .before .before .pre in
-    let few = pre .0 .few-nodes in
-    omega (arith, few, c .before .if1 .left, c .if2 .left, m .inv .1)
+cast-j c = omega (arith, c .before .before .before .before .before .before .pre .0 .few-nodes, c .before .if1 .left, c .if2 .left)
 
 mul-w : tie.Need-mul-w Inv-loop μ-loop
-mul-w c =
-    let m = c .before .before .before .before .loop in
-    let a = c .before .before .before .before .before .before .args in
-    let pre = c .before .before .before .before .before .before .pre in
-    let few = pre .0 .few-nodes in
-    omega (arith, few, c .before .if1 .left, c .if2 .left, m .inv .1)
+mul-w c = omega (arith, c .before .before .before .before .before .before .pre .0 .few-nodes, c .before .if1 .left, c .if2 .left)
 
 array-read-w : tie.Need-array-read-w Inv-loop μ-loop
-array-read-w c =
-    let m = c .before .before .before .before .loop in
-    let a = c .before .before .before .before .before .before .args in
-    let pre = c .before .before .before .before .before .before .pre in
-    let few = pre .0 .few-nodes in
-    omega (arith, few, c .before .if1 .left, c .if2 .left, m .inv .1)
+array-read-w c = omega (arith, c .before .before .before .before .before .before .pre .0 .few-nodes, c .before .if1 .left, c .if2 .left, c .before .before .before .before .loop .inv .1)
 
 has-bit-requires : tie.Need-has-bit-requires Inv-loop μ-loop
-has-bit-requires c κs =
-    let m = c .before .before .before .before .loop in
-    let a = c .before .before .before .before .before .before .args in
-    let pre = c .before .before .before .before .before .before .pre in
-    omega arith
+has-bit-requires c κs = omega arith
 
 no-requires-3 : tie.Need-no-requires-3 Inv-loop μ-loop
 no-requires-3 c κs = search needs
@@ -112,7 +86,6 @@ returns-3 : tie.Need-returns-3 Inv-loop μ-loop
 returns-3 c =
     let m = c .before .before .before .before .before .before .before .loop in
     let a = c .before .before .before .before .before .before .before .before .before .args in
-    let pre = c .before .before .before .before .before .before .before .before .before .pre in
     let h = has-read (m .all) (getD (a .ws .now) (a .t + 3 + 16 * a .n + m .i) 0) _ (omega (arith, c .before .before .before .before .if1 .left)) (c .before .before .has-bit .ensures) in
     let y = sym (meets-in (a .n) (m .all) (getD (a .ws .now) (a .t + 3 + 16 * a .n + m .i) 0) (c .before .before .has-bit .result) (c .before .before .before .before .if1 .left) (c .before .before .before .if2 .left) h) in
     c .no3 .ensures ∙ frees-no (a .ws .now) (a .t) (a .n) (a .f) (m .i) (m .all) (a .t + 3 + 16 * a .n) (c .before .before .before .before .before .before .loop-test .taken) (y ∙ not-of (c .before .before .has-bit .result) (c .before .if3 .taken)) ∙ sym (m .inv .2) ∙ frees-start (a .ws .now) (a .t) (a .n) (a .f) (a .t + 3 + 16 * a .n) (a .marks)
@@ -142,7 +115,7 @@ sub-b : tie.Need-sub-b Inv-loop μ-loop
 sub-b c = omega (arith, here c)
 
 are-zero-requires : tie.Need-are-zero-requires Inv-loop μ-loop
-are-zero-requires c κs = omega (arith, here c)
+are-zero-requires c κs = here c .room
 
 no-requires-4 : tie.Need-no-requires-4 Inv-loop μ-loop
 no-requires-4 c κs = search needs
@@ -154,11 +127,7 @@ returns-4 c =
     c .no4 .ensures ∙ frees-full (a .ws .now) (a .t) (a .n) (a .f) (m .i) (m .all) (a .t + 3 + 16 * a .n) (c .before .before .before .before .before .before .before .before .loop-test .taken) (seen (c .before .before .before)) (sym (c .before .before .are-zero .ensures) ∙ not-true (c .before .before .are-zero .result) (c .before .if4 .taken)) ∙ sym (m .inv .2) ∙ frees-start (a .ws .now) (a .t) (a .n) (a .f) (a .t + 3 + 16 * a .n) (a .marks)
 
 with-bit-requires : tie.Need-with-bit-requires Inv-loop μ-loop
-with-bit-requires c κs =
-    let m = c .before .before .before .before .before .before .before .before .loop in
-    let a = c .before .before .before .before .before .before .before .before .before .before .args in
-    let pre = c .before .before .before .before .before .before .before .before .before .before .pre in
-    omega arith
+with-bit-requires c κs = omega arith
 
 mul-all : tie.Need-mul-all Inv-loop μ-loop
 mul-all c = omega (arith, here (c .before .before .before), c .before .before .before .before .before .before .before .before .before .loop .inv .1)
@@ -167,16 +136,16 @@ array-write-all : tie.Need-array-write-all Inv-loop μ-loop
 array-write-all c = omega (arith, here (c .before .before .before), c .before .before .before .before .before .before .before .before .before .loop .inv .1)
 
 add-i : tie.Need-add-i Inv-loop μ-loop
-add-i c = omega arith
+add-i c = omega (arith, c .before .before .before .before .before .before .before .before .loop-test .taken, c .before .before .before .before .before .before .before .before .before .before .before .pre)
 
 loop-less : tie.Need-loop-less Inv-loop μ-loop
-loop-less c = omega arith
+loop-less c = omega (arith, c .before .before .before .before .before .before .before .before .loop-test .taken)
 
 loop-again : tie.Need-loop-again Inv-loop μ-loop
 loop-again c =
     let m = c .before .before .before .before .before .before .before .before .before .loop in
     let a = c .before .before .before .before .before .before .before .before .before .before .before .args in
-    (omega arith, search needs, m .inv .2 ∙ frees-on (a .ws .now) (a .t) (a .n) (a .f) (m .i) (m .all) (a .t + 3 + 16 * a .n) (c .before .before .before .before .before .before .before .before .loop-test .taken) (seen (c .before .before .before)) (sym (c .before .before .are-zero .ensures) ∙ not-false (c .before .before .are-zero .result) (c .before .if4 .left)) _ (mark-write (m .all) (getD (a .ws .now) (a .t + 3 + 16 * a .n + m .i) 0) _ (here (c .before .before .before) .some) (c .with-bit .ensures)))
+    (omega (arith, c .before .before .before .before .before .before .before .before .loop-test .taken), length-set (m .all) ((getD (a .ws .now) (a .t + 3 + 16 * a .n + m .i) 0 - 1) / 64) (c .with-bit .result) ∙ m .inv .1, m .inv .2 ∙ frees-on (a .ws .now) (a .t) (a .n) (a .f) (m .i) (m .all) (a .t + 3 + 16 * a .n) (c .before .before .before .before .before .before .before .before .loop-test .taken) (seen (c .before .before .before)) (sym (c .before .before .are-zero .ensures) ∙ not-false (c .before .before .are-zero .result) (c .before .if4 .left)) _ (mark-write (m .all) (getD (a .ws .now) (a .t + 3 + 16 * a .n + m .i) 0) _ (here (c .before .before .before) .some) (c .with-bit .ensures)))
 
 returns-5 : tie.Need-returns-5 Inv-loop μ-loop
 returns-5 c = sym (frees-end (c .before .before .before .args .ws .now) (c .before .before .before .args .t) (c .before .before .before .args .n) (c .before .before .before .args .f) (c .before .loop .i) (c .before .loop .all) (c .before .before .before .args .t + 3 + 16 * c .before .before .before .args .n) (c .loop-test .left)) ∙ sym (c .before .loop .inv .2) ∙ frees-start (c .before .before .before .args .ws .now) (c .before .before .before .args .t) (c .before .before .before .args .n) (c .before .before .before .args .f) (c .before .before .before .args .t + 3 + 16 * c .before .before .before .args .n) (c .before .before .before .args .marks)
