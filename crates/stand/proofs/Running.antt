@@ -17,11 +17,11 @@ use Rattle.forest.specs.declared.Cursor.{Cursor}
 use Rattle.forest.proofs.ListLaws.{is, isnt, test, tests, both}
 use Rattle.forest.proofs.RowLaws.{length-items}
 use Rattle.forest.proofs.CursorLaws.{runs-yes, runs-fits, runs-path}
-use Rattle.path.specs.Ways.{base, block}
+use Rattle.path.specs.Ways.{base, block, Deep, Lies}
 use Rattle.path.specs.Cores.{Ready, Of}
 use Rattle.path.proofs.NodeWords.{grouped}
 use Rattle.path.proofs.Laid.{Laid, RowIn, RowsIn, size-bounds, ParentRow, parent-row, child-at, child-of, parent-in, offset-in, inside, leaf-first, inner-first}
-use Rattle.path.proofs.Steps.{first-word, link-word-at}
+use Rattle.path.proofs.Steps.{first-word, link-word-at, lies-of, child-deep}
 use Rattle.path.proofs.Roots.{root-is, lies-there, some-root}
 use Rattle.walk.specs.Walks.{zeros}
 use Rattle.stand.specs.Runs.{ended, runsFrom, levelsFrom, standsAt, Tells}
@@ -246,6 +246,15 @@ module _ (ws : List ℕ) (t n : ℕ) (c : Cursor) (l : ℕ) where
   runs-end h = let z : c .size - l ≡ 0 = omega arith in rw z
 
   module _ (h : l < c .size) where
+    -- the node of level l lies in the words, and so does its child at the next
+    pub node-lies : Deep (c .size - l) ws t n → Lies ws t n
+    node-lies d = lies-of (c .size - l) ws t n (λ (z : c .size - l ≡ 0). omega arith) d
+
+    pub child-below : Deep (c .size - l) ws t n → getD ws (base t n) 0 < 32 → getD (c .places) l 0 ≤ getD ws (base t n) 0 - 16 → Deep (c .size - (l + 1)) ws t (getD ws (base t n + 8 + getD (c .places) l 0) 0)
+    child-below d w k =
+        let e : c .size - l - 1 ≡ c .size - (l + 1) = omega arith in
+        rw (← e) (child-deep (c .size - l) ws t n (getD (c .places) l 0) (λ (z : c .size - l ≡ 0). omega arith) d w k)
+
     pub runs-other : (getD (c .nodes) l 0 ≡ n → ⊥) → false ≡ runsFrom ws t n (levelsFrom c l)
     runs-other k = rw (levels-cons c l h, ne-eqb (getD (c .nodes) l 0) n k)
 

@@ -3,8 +3,8 @@ use Prim.Native.Nat.{_-_, _+_}
 use native.Mathlib.Omega.{arith}
 use lib.ListN.{getD}
 use Rattle.path.specs.Ways.{base, Lies}
-use Rattle.path.proofs.Steps.{inner-bounds, lies-of, child-deep}
-use Rattle.stand.proofs.Running.{runs-end, runs-other, runs-long, runs-leaf, runs-past, runs-on}
+use Rattle.path.proofs.Steps.{inner-bounds}
+use Rattle.stand.proofs.Running.{node-lies, child-below, runs-end, runs-other, runs-long, runs-leaf, runs-past, runs-on}
 use Prim.Native.Nat.{ℕ, _≤_, _<_}
 use borrow.Fn.Kinds.{In}
 use borrow.Fn.PlainCycle.{Measures, is, falls, and}
@@ -29,10 +29,7 @@ abbrev claims : ℕ → runs-from-lts.Claims
 claims t = (runs-from-below t, runs-from.Post)
 
 runs-from-cast-size : (t : ℕ) → runs-from-lts.Need-cast-size (claims t) (runs-from-at t) runs-from.Post
-runs-from-cast-size t c =
-    let start = c .before in
-    let a = start .args in
-    omega (arith, start .pre .1 .1 .0, start .pre .1 .1 .1)
+runs-from-cast-size t c = omega (arith, c .before .pre .1 .1)
 
 runs-from-returns : (t : ℕ) → runs-from-lts.Need-returns (claims t) (runs-from-at t) runs-from.Post
 runs-from-returns t c =
@@ -41,28 +38,16 @@ runs-from-returns t c =
     runs-end (a .ws .now) (a .t) (a .node) (a .t3) (a .l) (c .if1 .taken)
 
 runs-from-mul-n : (t : ℕ) → runs-from-lts.Need-mul-n (claims t) (runs-from-at t) runs-from.Post
-runs-from-mul-n t c =
-    let start = c .before .before in
-    let a = start .args in
-    omega (arith, start .pre .1 .1 .0, start .pre .1 .1 .1)
+runs-from-mul-n t c = omega (arith, c .before .before .pre .1 .1, c .if1 .left)
 
 runs-from-element-copy-out-n : (t : ℕ) → runs-from-lts.Need-element-copy-out-n (claims t) (runs-from-at t) runs-from.Post
-runs-from-element-copy-out-n t c =
-    let start = c .before .before in
-    let a = start .args in
-    omega (arith, start .pre .1 .1 .0, start .pre .1 .1 .1)
+runs-from-element-copy-out-n t c = omega (arith, c .before .before .pre .1 .1, c .if1 .left)
 
 runs-from-mul-p : (t : ℕ) → runs-from-lts.Need-mul-p (claims t) (runs-from-at t) runs-from.Post
-runs-from-mul-p t c =
-    let start = c .before .before .before in
-    let a = start .args in
-    omega (arith, start .pre .1 .1 .0, start .pre .1 .1 .1)
+runs-from-mul-p t c = omega (arith, c .before .before .before .pre .1 .1, c .before .if1 .left)
 
 runs-from-element-copy-out-p : (t : ℕ) → runs-from-lts.Need-element-copy-out-p (claims t) (runs-from-at t) runs-from.Post
-runs-from-element-copy-out-p t c =
-    let start = c .before .before .before in
-    let a = start .args in
-    omega (arith, start .pre .1 .1 .0, start .pre .1 .1 .1)
+runs-from-element-copy-out-p t c = omega (arith, c .before .before .before .pre .1 .1, c .before .if1 .left)
 
 runs-from-returns-2 : (t : ℕ) → runs-from-lts.Need-returns-2 (claims t) (runs-from-at t) runs-from.Post
 runs-from-returns-2 t c =
@@ -75,47 +60,32 @@ lies : (t : ℕ) (c : runs-from-lts.Else2 (claims t) (runs-from-at t) runs-from.
 lies t c =
     let start = c .before .before .before .before .before in
     let a = start .args in
-    let z = c .before .before .before .if1 .left in
-    lies-of (a .t3 .size - a .l) (a .ws .now) (a .t) (a .node) (λ (e : a .t3 .size - a .l ≡ 0). omega arith) (start .pre .1 .0)
+    node-lies (a .ws .now) (a .t) (a .node) (a .t3) (a .l) (c .before .before .before .if1 .left) (start .pre .1 .0)
 
 inner : (t : ℕ) (c : runs-from-lts.Else3 (claims t) (runs-from-at t) runs-from.Post) → (16 ≤ getD (c .before .before .before .before .before .before .before .args .ws .now) (base (c .before .before .before .before .before .before .before .args .t) (c .before .before .before .before .before .before .before .args .node)) 0) × (getD (c .before .before .before .before .before .before .before .args .ws .now) (base (c .before .before .before .before .before .before .before .args .t) (c .before .before .before .before .before .before .before .args .node)) 0 ≤ 23)
 inner t c = inner-bounds (c .before .before .before .before .before .before .before .args .ws .now) (c .before .before .before .before .before .before .before .args .t) (c .before .before .before .before .before .before .before .args .node) (lies t (c .before .before)) (c .if3 .left)
 
+-- past the test of the place
+child : (t : ℕ) (c : runs-from-lts.Else5 (claims t) (runs-from-at t) runs-from.Post) → getD (c .before .before .before .before .before .before .before .before .args .t3 .places) (c .before .before .before .before .before .before .before .before .args .l) 0 ≤ 7
+child t c = omega (arith, inner t (c .before) .1, c .if5 .left)
+
 runs-from-mul-b : (t : ℕ) → runs-from-lts.Need-mul-b (claims t) (runs-from-at t) runs-from.Post
-runs-from-mul-b t c =
-    let start = c .before .before .before .before .before in
-    let l = lies t c in
-    omega (arith, l .few, start .pre .1 .1 .0, start .pre .1 .1 .1)
+runs-from-mul-b t c = omega (arith, lies t c .few, c .before .before .before .before .before .pre .1 .1 .0)
 
 runs-from-add-b : (t : ℕ) → runs-from-lts.Need-add-b (claims t) (runs-from-at t) runs-from.Post
-runs-from-add-b t c =
-    let start = c .before .before .before .before .before in
-    let l = lies t c in
-    omega (arith, l .few, start .pre .1 .1 .0, start .pre .1 .1 .1)
+runs-from-add-b t c = omega (arith, lies t c .few, c .before .before .before .before .before .pre .1 .1 .0)
 
 runs-from-sub-b : (t : ℕ) → runs-from-lts.Need-sub-b (claims t) (runs-from-at t) runs-from.Post
-runs-from-sub-b t c =
-    let start = c .before .before .before .before .before in
-    let l = lies t c in
-    omega (arith, l .some, start .pre .1 .1 .0, start .pre .1 .1 .1)
+runs-from-sub-b t c = omega (arith, lies t c .some)
 
 runs-from-mul-w : (t : ℕ) → runs-from-lts.Need-mul-w (claims t) (runs-from-at t) runs-from.Post
-runs-from-mul-w t c =
-    let start = c .before .before .before .before .before in
-    let l = lies t c in
-    omega (arith, l .few, start .pre .1 .1 .0, start .pre .1 .1 .1)
+runs-from-mul-w t c = omega (arith, lies t c .few, c .before .before .before .before .before .pre .1 .1 .0)
 
 runs-from-shared-slice-read-w : (t : ℕ) → runs-from-lts.Need-shared-slice-read-w (claims t) (runs-from-at t) runs-from.Post
-runs-from-shared-slice-read-w t c =
-    let start = c .before .before .before .before .before .before in
-    let l = lies t (c .before) in
-    omega (arith, l .long, start .pre .1 .1 .0, start .pre .1 .1 .1)
+runs-from-shared-slice-read-w t c = omega (arith, lies t (c .before) .long)
 
 runs-from-add-if4 : (t : ℕ) → runs-from-lts.Need-add-if4 (claims t) (runs-from-at t) runs-from.Post
-runs-from-add-if4 t c =
-    let start = c .before .before .before .before .before .before .before in
-    let a = start .args in
-    omega (arith, start .pre .1 .1 .0, start .pre .1 .1 .1)
+runs-from-add-if4 t c = omega (arith, c .before .before .before .before .before .before .before .pre .1 .1, c .before .before .before .before .before .if1 .left)
 
 runs-from-returns-3 : (t : ℕ) → runs-from-lts.Need-returns-3 (claims t) (runs-from-at t) runs-from.Post
 runs-from-returns-3 t c =
@@ -130,11 +100,7 @@ runs-from-returns-4 t c =
     runs-leaf (a .ws .now) (a .t) (a .node) (a .t3) (a .l) (c .before .before .before .before .before .before .if1 .left) (c .before .before .before .if2 .left) (c .before .if3 .taken) (c .if4 .left)
 
 runs-from-sub-if5 : (t : ℕ) → runs-from-lts.Need-sub-if5 (claims t) (runs-from-at t) runs-from.Post
-runs-from-sub-if5 t c =
-    let start = c .before .before .before .before .before .before .before in
-    let z = c .before .before .before .before .before .if1 .left in
-    let k = inner t c in
-    k .0
+runs-from-sub-if5 t c = inner t c .0
 
 runs-from-returns-5 : (t : ℕ) → runs-from-lts.Need-returns-5 (claims t) (runs-from-at t) runs-from.Post
 runs-from-returns-5 t c =
@@ -145,53 +111,29 @@ runs-from-returns-5 t c =
     runs-past (a .ws .now) (a .t) (a .node) (a .t3) (a .l) z (c .before .before .before .if2 .left) (c .before .if3 .left) (k .0) (c .if5 .taken)
 
 runs-from-add-runs-from : (t : ℕ) → runs-from-lts.Need-add-runs-from (claims t) (runs-from-at t) runs-from.Post
-runs-from-add-runs-from t c =
-    let start = c .before .before .before .before .before .before .before .before in
-    let a = start .args in
-    omega (arith, start .pre .1 .1 .0, start .pre .1 .1 .1)
+runs-from-add-runs-from t c = omega (arith, c .before .before .before .before .before .before .before .before .pre .1 .1, c .before .before .before .before .before .before .if1 .left)
 
 runs-from-add-runs-from-2 : (t : ℕ) → runs-from-lts.Need-add-runs-from-2 (claims t) (runs-from-at t) runs-from.Post
-runs-from-add-runs-from-2 t c =
-    let start = c .before .before .before .before .before .before .before .before in
-    let l = lies t (c .before .before .before) in
-    omega (arith, l .some, l .few, start .pre .1 .1 .0, start .pre .1 .1 .1)
+runs-from-add-runs-from-2 t c = omega (arith, lies t (c .before .before .before) .few, c .before .before .before .before .before .before .before .before .pre .1 .1 .0)
 
 runs-from-cast-runs-from : (t : ℕ) → runs-from-lts.Need-cast-runs-from (claims t) (runs-from-at t) runs-from.Post
-runs-from-cast-runs-from t c =
-    let start = c .before .before .before .before .before .before .before .before in
-    let z = c .before .before .before .before .before .before .if1 .left in
-    let k = inner t (c .before) in
-    omega (arith, k .1, c .if5 .left, start .pre .1 .1 .0, start .pre .1 .1 .1)
+runs-from-cast-runs-from t c = omega (arith, child t c)
 
 runs-from-add-runs-from-3 : (t : ℕ) → runs-from-lts.Need-add-runs-from-3 (claims t) (runs-from-at t) runs-from.Post
-runs-from-add-runs-from-3 t c =
-    let start = c .before .before .before .before .before .before .before .before in
-    let l = lies t (c .before .before .before) in
-    let k = inner t (c .before) in
-    omega (arith, l .some, l .few, k .1, c .if5 .left, start .pre .1 .1 .0, start .pre .1 .1 .1)
+runs-from-add-runs-from-3 t c = omega (arith, lies t (c .before .before .before) .few, child t c, c .before .before .before .before .before .before .before .before .pre .1 .1 .0)
 
 runs-from-mul-runs-from : (t : ℕ) → runs-from-lts.Need-mul-runs-from (claims t) (runs-from-at t) runs-from.Post
-runs-from-mul-runs-from t c =
-    let start = c .before .before .before .before .before .before .before .before in
-    let l = lies t (c .before .before .before) in
-    let k = inner t (c .before) in
-    omega (arith, l .some, l .few, k .1, c .if5 .left, start .pre .1 .1 .0, start .pre .1 .1 .1)
+runs-from-mul-runs-from t c = omega (arith, lies t (c .before .before .before) .few, child t c, c .before .before .before .before .before .before .before .before .pre .1 .1 .0)
 
 runs-from-shared-slice-read-runs-from : (t : ℕ) → runs-from-lts.Need-shared-slice-read-runs-from (claims t) (runs-from-at t) runs-from.Post
-runs-from-shared-slice-read-runs-from t c =
-    let start = c .before .before .before .before .before .before .before .before .before in
-    let l = lies t (c .before .before .before .before) in
-    let k = inner t (c .before .before) in
-    omega (arith, l .some, l .long, k .1, c .before .if5 .left, start .pre .1 .1 .0, start .pre .1 .1 .1)
+runs-from-shared-slice-read-runs-from t c = omega (arith, lies t (c .before .before .before .before), child t (c .before))
 
 runs-from-runs-from-requires : (t : ℕ) → runs-from-lts.Need-runs-from-requires (claims t) (runs-from-at t) runs-from.Post
 runs-from-runs-from-requires t c κs =
     let start = c .before .before .before .before .before .before .before .before .before in
     let a = start .args in
-    let z = c .before .before .before .before .before .before .before .if1 .left in
-    let d = child-deep (a .t3 .size - a .l) (a .ws .now) (a .t) (a .node) (getD (a .t3 .places) (a .l) 0) (λ (e : a .t3 .size - a .l ≡ 0). omega arith) (start .pre .1 .0) (c .before .before .if3 .left) (c .before .if5 .left) in
-    let e : a .t3 .size - a .l - 1 ≡ a .t3 .size - (a .l + 1) = omega arith in
-    (omega (arith, start .pre .0), (rw (← e) d, (start .pre .1 .1 .0, start .pre .1 .1 .1)))
+    let inside = c .before .before .before .before .before .before .before .if1 .left in
+    (omega (arith, start .pre .0, inside), (child-below (a .ws .now) (a .t) (a .node) (a .t3) (a .l) inside (start .pre .1 .0) (c .before .before .if3 .left) (c .before .if5 .left), start .pre .1 .1))
 
 runs-from-returns-6 : (t : ℕ) → runs-from-lts.Need-returns-6 (claims t) (runs-from-at t) runs-from.Post
 runs-from-returns-6 t c =
