@@ -1,6 +1,6 @@
 -- Laws that the proof of the walk cites: one for each return, and the loop over the children from its k-th turn on
 use Rattle.forest.specs.Sizes.{leafLeast}
-use mathlib.Core.Path.{_≡_, refl, sym, ap, _∙_}
+use mathlib.Core.Path.{_≡_, refl, sym, _∙_}
 use mathlib.Core.List.{List}
 use mathlib.Core.Bool.{Bool, true, false}
 use Prim.Native.Nat.{ℕ, zero, suc, _+_, _-_, _≤_, _<_}
