@@ -43,7 +43,7 @@ claims t = (
 )
 
 current-crit-key-returns : (t : ℕ) → current-crit-key-lts.Need-returns (claims t) (current-crit-key-at t) current-crit-key.Post
-current-crit-key-returns t c = LeftLaws.crit-root (c .before .before .args .level) (omega arith)
+current-crit-key-returns t c = LeftLaws.crit-root (c .before .before .args .level) (omega (arith, c .if1 .taken))
 
 current-crit-key-sub-l : (t : ℕ) → current-crit-key-lts.Need-sub-l (claims t) (current-crit-key-at t) current-crit-key.Post
 current-crit-key-sub-l t c = search needs
@@ -58,10 +58,10 @@ current-crit-key-cast-p : (t : ℕ) → current-crit-key-lts.Need-cast-p (claims
 current-crit-key-cast-p t c = search needs
 
 current-crit-key-current-crit-key-requires : (t : ℕ) → current-crit-key-lts.Need-current-crit-key-requires (claims t) (current-crit-key-at t) current-crit-key.Post
-current-crit-key-current-crit-key-requires t c κs = (omega arith, WayLaws.way-up (c .before .before .before .before .pre .1) (c .before .before .before .before .args .level - 1) (omega arith))
+current-crit-key-current-crit-key-requires t c κs = (omega (arith, c .before .before .before .before .pre .0, c .before .before .if1 .left), WayLaws.way-up (c .before .before .before .before .pre .1) (c .before .before .before .before .args .level - 1) (omega (arith, c .before .before .if1 .left)))
 
 current-crit-key-returns-2 : (t : ℕ) → current-crit-key-lts.Need-returns-2 (claims t) (current-crit-key-at t) current-crit-key.Post
-current-crit-key-returns-2 t c = LeftLaws.crit-up (c .before .before .before .before .before .pre .1) (c .before .before .before .before .before .args .level - 1) (omega arith) _ (c .current-crit-key .result) refl (c .before .if2 .taken) (c .current-crit-key .ensures)
+current-crit-key-returns-2 t c = LeftLaws.crit-up (c .before .before .before .before .before .pre .1) (c .before .before .before .before .before .args .level - 1) (omega (arith, c .before .before .before .if1 .left)) _ (c .current-crit-key .result) refl (c .before .if2 .taken) (c .current-crit-key .ensures)
 
 current-crit-key-mul-n : (t : ℕ) → current-crit-key-lts.Need-mul-n (claims t) (current-crit-key-at t) current-crit-key.Post
 current-crit-key-mul-n t c = search needs
@@ -70,16 +70,16 @@ current-crit-key-element-copy-out-n : (t : ℕ) → current-crit-key-lts.Need-el
 current-crit-key-element-copy-out-n t c = search needs
 
 current-crit-key-load-requires : (t : ℕ) → current-crit-key-lts.Need-load-requires (claims t) (current-crit-key-at t) current-crit-key.Post
-current-crit-key-load-requires t c κs = WayLaws.way-placed (c .before .before .before .before .before .pre .1) (c .before .before .before .before .before .args .level - 1) (omega arith)
+current-crit-key-load-requires t c κs = WayLaws.way-placed (c .before .before .before .before .before .pre .1) (c .before .before .before .before .before .args .level - 1) (omega (arith, c .before .before .before .if1 .left))
 
 current-crit-key-mul-t11 : (t : ℕ) → current-crit-key-lts.Need-mul-t11 (claims t) (current-crit-key-at t) current-crit-key.Post
-current-crit-key-mul-t11 t c = omega (arith, WayLaws.way-small (c .before .before .before .before .before .before .pre .1) (c .before .before .before .before .before .before .args .level - 1) (omega arith))
+current-crit-key-mul-t11 t c = omega (arith, WayLaws.way-small (c .before .before .before .before .before .before .pre .1) (c .before .before .before .before .before .before .args .level - 1) (omega (arith, c .before .before .before .before .if1 .left)))
 
 current-crit-key-array-read-t14 : (t : ℕ) → current-crit-key-lts.Need-array-read-t14 (claims t) (current-crit-key-at t) current-crit-key.Post
-current-crit-key-array-read-t14 t c = omega (arith, WayLaws.way-small (c .before .before .before .before .before .before .pre .1) (c .before .before .before .before .before .before .args .level - 1) (omega arith))
+current-crit-key-array-read-t14 t c = omega (arith, WayLaws.way-small (c .before .before .before .before .before .before .pre .1) (c .before .before .before .before .before .before .args .level - 1) (omega (arith, c .before .before .before .before .if1 .left)))
 
 current-crit-key-returns-3 : (t : ℕ) → current-crit-key-lts.Need-returns-3 (claims t) (current-crit-key-at t) current-crit-key.Post
-current-crit-key-returns-3 t c = LeftLaws.crit-here (c .before .before .before .before .before .before .pre .1) (c .before .before .before .before .before .before .args .level - 1) (omega arith) (c .load .result) _ (c .load .ensures) refl (c .before .before .if2 .left)
+current-crit-key-returns-3 t c = LeftLaws.crit-here (c .before .before .before .before .before .before .pre .1) (c .before .before .before .before .before .before .args .level - 1) (omega (arith, c .before .before .before .before .if1 .left)) (c .load .result) _ (c .load .ensures) refl (c .before .before .if2 .left)
 
 pub +current-crit-key-spec : {M : Type 1} → statement M
 +current-crit-key-spec = close μ-current-crit-key λ t. current-crit-key-lts.spec (claims t) (current-crit-key-at t) current-crit-key.Post

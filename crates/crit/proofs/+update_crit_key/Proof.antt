@@ -47,7 +47,7 @@ claims t = (
 
 -- src/lib.rt:105:9
 update-crit-key-returns : (t : ℕ) → update-crit-key-lts.Need-returns (claims t) (update-crit-key-at t) update-crit-key.Post
-update-crit-key-returns t c = LeftLaws.left-root (c .before .before .args .key) (c .before .before .args .level) (omega arith)
+update-crit-key-returns t c = LeftLaws.left-root (c .before .before .args .key) (c .before .before .args .level) (omega (arith, c .if1 .taken))
 
 -- src/lib.rt:107:13
 update-crit-key-sub-l : (t : ℕ) → update-crit-key-lts.Need-sub-l (claims t) (update-crit-key-at t) update-crit-key.Post
@@ -67,15 +67,15 @@ update-crit-key-cast-p t c = search needs
 
 -- src/lib.rt:110:9
 update-crit-key-update-crit-key-requires : (t : ℕ) → update-crit-key-lts.Need-update-crit-key-requires (claims t) (update-crit-key-at t) update-crit-key.Post
-update-crit-key-update-crit-key-requires t c κs = (omega arith, WayLaws.way-up (c .before .before .before .before .before .pre .1) (c .before .before .before .before .before .args .level - 1) (omega arith))
+update-crit-key-update-crit-key-requires t c κs = (omega (arith, c .before .before .before .before .before .pre .0, c .before .before .before .if1 .left), WayLaws.way-up (c .before .before .before .before .before .pre .1) (c .before .before .before .before .before .args .level - 1) (omega (arith, c .before .before .before .if1 .left)))
 
 -- src/lib.rt:111:9
 update-crit-key-same-length : (t : ℕ) → update-crit-key-lts.Need-same-length (claims t) (update-crit-key-at t) update-crit-key.Post
-update-crit-key-same-length t c = search needs
+update-crit-key-same-length t c = c .before .ws .given
 
 -- src/lib.rt:111:9
 update-crit-key-returns-2 : (t : ℕ) → update-crit-key-lts.Need-returns-2 (claims t) (update-crit-key-at t) update-crit-key.Post
-update-crit-key-returns-2 t c = LeftLaws.left-up (c .before .before .before .before .before .before .before .before .pre .1) (c .before .before .before .before .before .before .before .before .args .level - 1) (omega arith) _ _ (c .before .before .before .before .before .before .before .before .args .key) refl (c .before .before .before .before .if2 .taken) (c .before .before .update-crit-key .ensures)
+update-crit-key-returns-2 t c = LeftLaws.left-up (c .before .before .before .before .before .before .before .before .pre .1) (c .before .before .before .before .before .before .before .before .args .level - 1) (omega (arith, c .before .before .before .before .before .before .if1 .left)) _ _ (c .before .before .before .before .before .before .before .before .args .key) refl (c .before .before .before .before .if2 .taken) (c .before .before .update-crit-key .ensures)
 
 -- src/lib.rt:113:13
 update-crit-key-mul-n : (t : ℕ) → update-crit-key-lts.Need-mul-n (claims t) (update-crit-key-at t) update-crit-key.Post
@@ -87,27 +87,27 @@ update-crit-key-element-copy-out-n t c = search needs
 
 -- src/lib.rt:114:17
 update-crit-key-load-requires : (t : ℕ) → update-crit-key-lts.Need-load-requires (claims t) (update-crit-key-at t) update-crit-key.Post
-update-crit-key-load-requires t c κs = WayLaws.way-placed (c .before .before .before .before .before .before .pre .1) (c .before .before .before .before .before .before .args .level - 1) (omega arith)
+update-crit-key-load-requires t c κs = WayLaws.way-placed (c .before .before .before .before .before .before .pre .1) (c .before .before .before .before .before .before .args .level - 1) (omega (arith, c .before .before .before .before .if1 .left))
 
 -- src/lib.rt:115:5
 update-crit-key-mul-w : (t : ℕ) → update-crit-key-lts.Need-mul-w (claims t) (update-crit-key-at t) update-crit-key.Post
-update-crit-key-mul-w t c = omega (arith, WayLaws.way-small (c .before .before .before .before .before .before .before .pre .1) (c .before .before .before .before .before .before .before .args .level - 1) (omega arith))
+update-crit-key-mul-w t c = omega (arith, WayLaws.way-small (c .before .before .before .before .before .before .before .pre .1) (c .before .before .before .before .before .before .before .args .level - 1) (omega (arith, c .before .before .before .before .before .if1 .left)))
 
 -- src/lib.rt:115:5
 update-crit-key-array-write-w : (t : ℕ) → update-crit-key-lts.Need-array-write-w (claims t) (update-crit-key-at t) update-crit-key.Post
-update-crit-key-array-write-w t c = omega (arith, WayLaws.way-small (c .before .before .before .before .before .before .before .pre .1) (c .before .before .before .before .before .before .before .args .level - 1) (omega arith))
+update-crit-key-array-write-w t c = omega (arith, WayLaws.way-small (c .before .before .before .before .before .before .before .pre .1) (c .before .before .before .before .before .before .before .args .level - 1) (omega (arith, c .before .before .before .before .before .if1 .left)))
 
 -- src/lib.rt:116:5
 update-crit-key-store-requires : (t : ℕ) → update-crit-key-lts.Need-store-requires (claims t) (update-crit-key-at t) update-crit-key.Post
-update-crit-key-store-requires t c κs = WayLaws.way-placed (c .before .before .before .before .before .before .before .before .pre .1) (c .before .before .before .before .before .before .before .before .args .level - 1) (omega arith)
+update-crit-key-store-requires t c κs = WayLaws.way-placed (c .before .before .before .before .before .before .before .before .pre .1) (c .before .before .before .before .before .before .before .before .args .level - 1) (omega (arith, c .before .before .before .before .before .before .if1 .left))
 
 -- src/lib.rt:100:1
 update-crit-key-same-length-2 : (t : ℕ) → update-crit-key-lts.Need-same-length-2 (claims t) (update-crit-key-at t) update-crit-key.Post
-update-crit-key-same-length-2 t c = search needs
+update-crit-key-same-length-2 t c = c .before .ws2 .given
 
 -- src/lib.rt:100:1
 update-crit-key-returns-3 : (t : ℕ) → update-crit-key-lts.Need-returns-3 (claims t) (update-crit-key-at t) update-crit-key.Post
-update-crit-key-returns-3 t c = LeftLaws.left-here (c .before .before .before .before .before .before .before .before .before .before .before .pre .1) (c .before .before .before .before .before .before .before .before .before .before .before .args .level - 1) (omega arith) (c .before .before .before .before .load .result) _ _ (c .before .before .before .before .before .before .before .before .before .before .before .args .key) (c .before .before .before .before .load .ensures) refl (c .before .before .before .before .before .before .before .if2 .left) (c .before .before .store .ensures)
+update-crit-key-returns-3 t c = LeftLaws.left-here (c .before .before .before .before .before .before .before .before .before .before .before .pre .1) (c .before .before .before .before .before .before .before .before .before .before .before .args .level - 1) (omega (arith, c .before .before .before .before .before .before .before .before .before .if1 .left)) (c .before .before .before .before .load .result) _ _ (c .before .before .before .before .before .before .before .before .before .before .before .args .key) (c .before .before .before .before .load .ensures) refl (c .before .before .before .before .before .before .before .if2 .left) (c .before .before .store .ensures)
 
 pub +update-crit-key-spec : {M : Type 1} → statement M
 +update-crit-key-spec = close μ-update-crit-key λ t. update-crit-key-lts.spec (claims t) (update-crit-key-at t) update-crit-key.Post

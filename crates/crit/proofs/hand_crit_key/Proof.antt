@@ -16,7 +16,7 @@ enum-told : tie.Need-enum-told
 enum-told c = search needs
 
 same-length : tie.Need-same-length
-same-length c = search needs
+same-length c = c .before .ws .given
 
 returns : tie.Need-returns
 returns c = LeftLaws.hand-some (c .before .before .before .before .before .before .before .current-crit-key .result) (c .before .before .before .before .before .key .given .0 .0) (c .before .before .before .before .before .before .before .current-crit-key .ensures) (c .before .before .before .before .before .key .given .1) (c .before .before .update-right-crit-key .ensures)
