@@ -1,5 +1,5 @@
 use borrow.Author.Needs.{needs}
-use mathlib.Core.Path.{refl}
+use mathlib.Core.Path.{refl, _∙_}
 use Prim.Native.Nat.{_*_, _+_}
 use native.Mathlib.Omega.{arith}
 use Rattle.heal.specs.Cycle.{innerKind}
@@ -115,7 +115,7 @@ empty-node-free-node-requires : (t : ℕ) → empty-node-lts.Need-free-node-requ
 empty-node-free-node-requires t c κs = CycleLaws.free-asks (c .before .before .before .pre .1)
 
 empty-node-same-length : (t : ℕ) → empty-node-lts.Need-same-length (empty-node-claims t) (empty-node-at t) empty-node.Post
-empty-node-same-length t c = search needs
+empty-node-same-length t c = c .before .before .ws .given
 
 empty-node-returns : (t : ℕ) → empty-node-lts.Need-returns (empty-node-claims t) (empty-node-at t) empty-node.Post
 empty-node-returns t c = CycleLaws.empties-root (omega arith) (CycleLaws.free-leaves (c .before .before .before .before .before .before .before .pre .1) _ (c .before .before .before .free-node .ensures)) refl refl refl refl
@@ -136,7 +136,7 @@ empty-node-through-right-requires : (t : ℕ) → empty-node-lts.Need-through-ri
 empty-node-through-right-requires t c κs = c .before .before .before .before .before .before .before .before .before .before .before .before .before .before .before .before .before .pre .1 .deep
 
 empty-node-same-length-2 : (t : ℕ) → empty-node-lts.Need-same-length-2 (empty-node-claims t) (empty-node-at t) empty-node.Post
-empty-node-same-length-2 t c = search needs
+empty-node-same-length-2 t c = c .before .before .ws3 .given ∙ c .before .before .before .before .before .before .ws2 .given ∙ c .before .before .before .before .before .before .before .before .before .before .before .before .before .ws .given
 
 empty-node-returns-2 : (t : ℕ) → empty-node-lts.Need-returns-2 (empty-node-claims t) (empty-node-at t) empty-node.Post
 empty-node-returns-2 t c = CycleLaws.empties (c .before .before .before .before .before .before .before .before .before .before .before .before .before .before .before .before .before .before .pre .1 .deep) (omega (arith, c .before .before .before .before .before .before .before .before .before .before .before .if1 .left)) (CycleLaws.free-leaves (c .before .before .before .before .before .before .before .before .before .before .before .before .before .before .before .before .before .before .pre .1) _ (c .before .before .before .before .before .before .before .before .before .before .before .before .before .before .free-node .ensures)) (c .before .before .before .before .before .before .before .before .before .right-sibling .ensures) (c .before .before .before .before .before .before .before .cut-parent .ensures) (c .before .before .before .heal-level .ensures) (c .through-right .ensures)
@@ -166,7 +166,7 @@ heal-level-underflowed-node-requires : (t : ℕ) → heal-level-lts.Need-underfl
 heal-level-underflowed-node-requires t c κs = (omega (arith, c .before .before .before .before .pre .0), CycleLaws.ask-under innerKind inner-law (c .before .before .before .before .pre .1) (c .before .enum-told3 .given .1))
 
 heal-level-same-length-2 : (t : ℕ) → heal-level-lts.Need-same-length-2 (heal-level-claims t) (heal-level-at t) heal-level.Post
-heal-level-same-length-2 t c = search needs
+heal-level-same-length-2 t c = c .before .ws .given
 
 heal-level-returns-3 : (t : ℕ) → heal-level-lts.Need-returns-3 (heal-level-claims t) (heal-level-at t) heal-level.Post
 heal-level-returns-3 t c = CycleLaws.heals-2 innerKind (c .before .before .before .before .enum-told3 .given .1) (c .before .before .underflowed-node .ensures)
@@ -178,7 +178,7 @@ heal-level-empty-node-requires : (t : ℕ) → heal-level-lts.Need-empty-node-re
 heal-level-empty-node-requires t c κs = (omega (arith, c .before .before .before .before .pre .0), CycleLaws.ask-none innerKind inner-law (c .before .before .before .before .pre .1) (c .before .enum-told4 .given .1))
 
 heal-level-same-length-3 : (t : ℕ) → heal-level-lts.Need-same-length-3 (heal-level-claims t) (heal-level-at t) heal-level.Post
-heal-level-same-length-3 t c = search needs
+heal-level-same-length-3 t c = c .before .ws2 .given
 
 heal-level-returns-4 : (t : ℕ) → heal-level-lts.Need-returns-4 (heal-level-claims t) (heal-level-at t) heal-level.Post
 heal-level-returns-4 t c = CycleLaws.heals-3 innerKind (c .before .before .before .before .enum-told4 .given .1) (c .before .before .empty-node .ensures)
@@ -196,13 +196,13 @@ underflowed-node-empty-node-requires : (t : ℕ) → underflowed-node-lts.Need-e
 underflowed-node-empty-node-requires t c κs = (omega (arith, c .before .before .before .before .before .before .before .before .before .before .before .before .pre .0), CycleLaws.ask-merge innerKind (c .before .before .before .before .before .before .before .before .before .right-sibling .ensures) (c .before .before .before .before .before .before .before .key .given .1) inner-law (c .before .before .before .before .before .before .before .before .before .before .before .before .pre .1) (c .before .before .before .before .join .ensures) (c .before .if1 .taken))
 
 underflowed-node-same-length : (t : ℕ) → underflowed-node-lts.Need-same-length (underflowed-node-claims t) (underflowed-node-at t) underflowed-node.Post
-underflowed-node-same-length t c = search needs
+underflowed-node-same-length t c = c .before .ws2 .given ∙ c .before .before .before .before .before .before .ws .given
 
 underflowed-node-returns : (t : ℕ) → underflowed-node-lts.Need-returns (underflowed-node-claims t) (underflowed-node-at t) underflowed-node.Post
 underflowed-node-returns t c = CycleLaws.under-merge innerKind (c .before .before .before .before .before .before .before .before .before .before .before .before .right-sibling .ensures) (c .before .before .before .before .before .before .before .before .before .before .key .given .1) (c .before .before .before .before .before .before .before .join .ensures) (c .before .before .before .before .if1 .taken) (c .before .before .empty-node .ensures)
 
 underflowed-node-same-length-2 : (t : ℕ) → underflowed-node-lts.Need-same-length-2 (underflowed-node-claims t) (underflowed-node-at t) underflowed-node.Post
-underflowed-node-same-length-2 t c = search needs
+underflowed-node-same-length-2 t c = c .before .before .ws .given
 
 underflowed-node-returns-2 : (t : ℕ) → underflowed-node-lts.Need-returns-2 (underflowed-node-claims t) (underflowed-node-at t) underflowed-node.Post
 underflowed-node-returns-2 t c = CycleLaws.under-share innerKind (c .before .before .before .before .before .before .before .before .right-sibling .ensures) (c .before .before .before .before .before .before .key .given .1) (c .before .before .before .join .ensures) (c .if1 .left)

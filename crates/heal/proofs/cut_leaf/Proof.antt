@@ -42,7 +42,7 @@ store-requires c κs = LeafLaws.leaf-placed (c .before .before .before .before .
 
 -- src/lib.rt:193:1
 same-length : tie.Need-same-length
-same-length c = search needs
+same-length c = c .before .ws .given
 
 -- src/lib.rt:193:1
 returns : tie.Need-returns

@@ -47,7 +47,7 @@ store-requires c κs = WayLaws.way-placed (c .before .before .before .before .be
 
 -- src/lib.rt:12:1
 same-length : tie.Need-same-length
-same-length c = search needs
+same-length c = c .before .ws .given
 
 -- src/lib.rt:12:1
 returns : tie.Need-returns

@@ -40,7 +40,7 @@ underflowed-leaf-requires c κs = CycleLaws.ask-under leafKind LeafLaws.leaf-law
 
 -- src/lib.rt:184:13
 same-length-2 : tie.Need-same-length-2
-same-length-2 c = search needs
+same-length-2 c = c .before .ws .given
 
 -- src/lib.rt:184:13
 returns-3 : tie.Need-returns-3
@@ -56,7 +56,7 @@ empty-node-requires c κs = CycleLaws.ask-none leafKind LeafLaws.leaf-law (c .be
 
 -- src/lib.rt:187:13
 same-length-3 : tie.Need-same-length-3
-same-length-3 c = search needs
+same-length-3 c = c .before .ws2 .given
 
 -- src/lib.rt:187:13
 returns-4 : tie.Need-returns-4

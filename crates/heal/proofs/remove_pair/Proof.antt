@@ -1,3 +1,4 @@
+use mathlib.Core.Path.{_∙_}
 use Rattle.heal.proofs.FrontLaws
 use Rattle.heal.proofs.LeafLaws
 use borrow.Author.Needs.{needs}
@@ -18,7 +19,7 @@ heal-leaf-requires c κs = FrontLaws.ask-heal (c .before .before .before .before
 
 -- src/lib.rt:223:1
 same-length : tie.Need-same-length
-same-length c = search needs
+same-length c = c .before .ws3 .given ∙ c .before .before .before .before .before .ws2 .given ∙ c .before .before .before .before .before .before .before .before .before .ws .given
 
 -- src/lib.rt:223:1
 returns : tie.Need-returns

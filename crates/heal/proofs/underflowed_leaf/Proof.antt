@@ -1,3 +1,4 @@
+use mathlib.Core.Path.{_∙_}
 use Rattle.heal.specs.Cycle.{leafKind}
 use Rattle.heal.proofs.LeafLaws
 use Rattle.heal.proofs.CycleLaws
@@ -18,13 +19,13 @@ empty-node-requires : tie.Need-empty-node-requires
 empty-node-requires c κs = CycleLaws.ask-merge leafKind (c .before .before .before .before .before .before .before .before .before .right-sibling .ensures) (c .before .before .before .before .before .before .before .node .given .1) LeafLaws.leaf-law (c .before .before .before .before .before .before .before .before .before .before .before .before .pre) (c .before .before .before .before .join-leaf .ensures) (c .before .if1 .taken)
 
 same-length : tie.Need-same-length
-same-length c = search needs
+same-length c = c .before .ws2 .given ∙ c .before .before .before .before .before .before .ws .given
 
 returns : tie.Need-returns
 returns c = CycleLaws.under-merge leafKind (c .before .before .before .before .before .before .before .before .before .before .before .before .right-sibling .ensures) (c .before .before .before .before .before .before .before .before .before .before .node .given .1) (c .before .before .before .before .before .before .before .join-leaf .ensures) (c .before .before .before .before .if1 .taken) (c .before .before .empty-node .ensures)
 
 same-length-2 : tie.Need-same-length-2
-same-length-2 c = search needs
+same-length-2 c = c .before .before .ws .given
 
 returns-2 : tie.Need-returns-2
 returns-2 c = CycleLaws.under-share leafKind (c .before .before .before .before .before .before .before .before .right-sibling .ensures) (c .before .before .before .before .before .before .node .given .1) (c .before .before .before .join-leaf .ensures) (c .if1 .left)

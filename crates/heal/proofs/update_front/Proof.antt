@@ -48,7 +48,7 @@ update-crit-key-requires c κs = c .before .before .before .before .before .befo
 
 -- src/lib.rt:207:1
 same-length-2 : tie.Need-same-length-2
-same-length-2 c = search needs
+same-length-2 c = c .before .ws .given
 
 -- src/lib.rt:207:1
 returns-2 : tie.Need-returns-2
