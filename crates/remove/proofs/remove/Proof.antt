@@ -1,3 +1,4 @@
+use mathlib.Core.Path.{_∙_}
 use mathlib.Core.Bool.{true, false}
 use native.Mathlib.Omega.{arith}
 use Rattle.remove.proofs.ShellLaws
@@ -17,7 +18,7 @@ remove-last-requires c κs = ShellLaws.ask-last (c .before .before .before .befo
 
 -- src/lib.rt:108:9
 same-length : tie.Need-same-length
-same-length c = search needs
+same-length c = c .before .ws .given
 
 -- src/lib.rt:108:9
 returns : tie.Need-returns
@@ -53,7 +54,7 @@ shift-path-requires c κs = ShellLaws.shift-asks (c .before .before .before .bef
 
 -- src/lib.rt:103:1
 same-length-2 : tie.Need-same-length-2
-same-length-2 c = search needs
+same-length-2 c = c .before .before .ws4 .given ∙ c .before .before .before .before .before .before .ws3 .given ∙ c .before .before .before .before .before .before .before .before .before .before .before .before .ws2 .given
 
 -- src/lib.rt:103:1
 returns-2 : tie.Need-returns-2

@@ -11,7 +11,7 @@ take-out-requires : tie.Need-take-out-requires
 take-out-requires c κs = KeyLaws.leaf-pair (c .before .before .before .before .before .pre)
 
 same-length : tie.Need-same-length
-same-length c = search needs
+same-length c = c .before .ws .given
 
 returns : tie.Need-returns
 returns c = KeyLaws.only-removes (c .before .before .before .before .before .before .before .before .pre) _ (sym (c .before .before .before .before .before .only-leaf .ensures) ∙ c .before .before .before .before .if1 .taken) (c .before .before .take-out .ensures)
@@ -23,7 +23,7 @@ remove-requires : tie.Need-remove-requires
 remove-requires c κs = c .before .before .before .before .before .before .before .pre .asks _ (c .before .find .ensures)
 
 same-length-2 : tie.Need-same-length-2
-same-length-2 c = search needs
+same-length-2 c = c .before .ws2 .given
 
 returns-2 : tie.Need-returns-2
 returns-2 c = KeyLaws.found-removes (c .before .before .before .before .before .before .before .before .before .before .pre) _ _ _ (c .before .before .before .before .find .ensures) (c .before .before .remove .ensures)

@@ -1,4 +1,4 @@
-use mathlib.Core.Path.{refl}
+use mathlib.Core.Path.{refl, _∙_}
 use Rattle.remove.proofs.LastLaws
 use borrow.Author.Needs.{needs}
 use Rattle.remove.proofs.remove_last.Statement.{statement}
@@ -20,7 +20,7 @@ set-root-requires c κs = LastLaws.last-root (c .before .before .before .before 
 
 -- src/lib.rt:74:1
 same-length : tie.Need-same-length
-same-length c = search needs
+same-length c = c .before .ws2 .given ∙ c .before .before .before .before .before .ws .given
 
 -- src/lib.rt:74:1
 returns : tie.Need-returns
