@@ -4,7 +4,6 @@ use Rattle.heal.specs.Cycle.{innerKind}
 use Rattle.heal.proofs.InnerLaws
 use Rattle.heal.proofs.JoinLaws
 use Rattle.heal.proofs.InnerOps.{inner-law}
-use borrow.Author.Needs.{needs}
 use Rattle.heal.proofs.join.Statement.{statement}
 use Rattle.heal.proofs.join.Tie as tie
 

@@ -3,7 +3,6 @@ use mathlib.Core.Path.{refl, _∙_}
 use Rattle.heal.specs.Cycle.{leafKind}
 use Rattle.heal.proofs.JoinLaws
 use Rattle.heal.proofs.LeafLaws
-use borrow.Author.Needs.{needs}
 use Rattle.heal.proofs.join_leaf.Statement.{statement}
 use Rattle.heal.proofs.join_leaf.Tie as tie
 
