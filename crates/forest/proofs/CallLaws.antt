@@ -3,20 +3,23 @@ use mathlib.Core.Path.{_≡_, refl, sym, ap, _∙_}
 use mathlib.Core.List.{List, [], _∷_}
 use mathlib.Core.Bool.{false}
 use mathlib.Core.Logic.{_≢_}
-use mathlib.Core.Option.{none}
+use mathlib.Core.Option.{Option, none, some}
 use Prim.Native.Nat.{ℕ, zero, suc, _+_, _-_, _≤_, _<_}
 use native.Mathlib.Omega.{arith}
 use lib.ListN.{length, drop, getD, set, length-drop}
 use lib.Seq.{set-getD}
-use lib.Dec.{ltb, eqb, leb}
-use borrow.Author.Tests.{ltb-true, ltb-false, eqb-true, eqb-false, leb-true, leb-false}
+use lib.Dec.{ltb, leb}
+use borrow.Author.Tests.{ltb-true, ltb-false, leb-true, leb-false}
 use Rattle.forest.specs.Lists.{count}
 use Rattle.forest.specs.Pairs.{has}
 use Rattle.forest.specs.Rows.{Tree, Good}
 use Rattle.forest.specs.Trees.{pairs, numbers, leafItems, need, removeTree, freed, getTree}
-use Rattle.forest.specs.Answers.{nothing}
+use Rattle.forest.specs.declared.Refusal.{Refusal}
+use Rattle.forest.specs.declared.Refusal.the-variants.{NoTree, NoRoom}
+use Rattle.forest.specs.declared.Reply.the-variants.{Nothing}
 use Rattle.forest.specs.Pools.{Pool, used, WellFormed, nodeWords, encode, root, treeOf, pushAll, Call, put, remove, get, target, after, takes, frees, refused, done, call}
 use Rattle.forest.proofs.ListLaws.{is, isnt, test, total-length}
+use Rattle.forest.proofs.Reasons.{passes, stops, verdict, number}
 use Rattle.forest.proofs.PairLaws.{lookup-has}
 use Rattle.forest.proofs.TreeLaws.{lands}
 use Rattle.forest.proofs.PoolLaws.{Free, free-call, call-free, call-done, call-refused, refused-two, refused-four, good-at, used-set, total-push, weight-after, other-trees, same-trees, own-tree, call-formed}
@@ -24,65 +27,65 @@ use Rattle.forest.proofs.WordLaws.{count-append, count-tree, used-once,
 
 -- Refusals: the table, read backwards
 
--- what the number of a call says
-pub record Judged (c : Call) (p : Pool) (n : ℕ) : Type 0 where
-  pub zero-free : n ≡ 0 → Free c p
-  pub two-tree : n ≡ 2 → length (p .trees) ≤ target c
-  pub four-there : n ≡ 4 → target c < length (p .trees)
-  pub four-above : n ≡ 4 → length (p .free) < takes c (treeOf p (target c))
+-- what the reason against a call says
+pub record Judged (c : Call) (p : Pool) (o : Option Refusal) : Type 0 where
+  pub zero-free : o ≡ none → Free c p
+  pub two-tree : o ≡ some NoTree → length (p .trees) ≤ target c
+  pub four-there : o ≡ some NoRoom → target c < length (p .trees)
+  pub four-above : o ≡ some NoRoom → length (p .free) < takes c (treeOf p (target c))
 
 pub judged : (c : Call) (p : Pool) → Judged c p (refused c p)
 unfolding refused
 judged c p = elim (test (leb (length (p .trees)) (target c))) [
   | is e ↦ simp e (record {
-    zero-free = λ z. absurd (omega arith);
+    zero-free = λ z. absurd (omega (arith, ap number z));
     two-tree = λ z. leb-true _ _ e;
-    four-there = λ z. absurd (omega arith);
-    four-above = λ z. absurd (omega arith);
+    four-there = λ z. absurd (omega (arith, ap number z));
+    four-above = λ z. absurd (omega (arith, ap number z));
   })
   | isnt e ↦ elim (test (ltb (length (p .free)) (takes c (treeOf p (target c))))) [
     | is f ↦ simp (e, f) (record {
-      zero-free = λ z. absurd (omega arith);
-      two-tree = λ z. absurd (omega arith);
+      zero-free = λ z. absurd (omega (arith, ap number z));
+      two-tree = λ z. absurd (omega (arith, ap number z));
       four-there = λ z. leb-false _ _ e;
       four-above = λ z. ltb-true _ _ f;
     })
     | isnt f ↦ simp (e, f) (record {
       zero-free = λ z. record { there = leb-false _ _ e; enough = ltb-false _ _ f };
-      two-tree = λ z. absurd (omega arith);
-      four-there = λ z. absurd (omega arith);
-      four-above = λ z. absurd (omega arith);
+      two-tree = λ z. absurd (omega (arith, ap number z));
+      four-there = λ z. absurd (omega (arith, ap number z));
+      four-above = λ z. absurd (omega (arith, ap number z));
     })
   ]
 ]
 
 -- 4 exactly when a put in a tree that is there needs more nodes than are free
 pub four-exactly : (t k v : ℕ) (p : Pool) → t < length (p .trees) →
-    (refused (put t k v) p ≡ 4 → length (p .free) < need 7 k (treeOf p t)) × (length (p .free) < need 7 k (treeOf p t) → refused (put t k v) p ≡ 4)
+    (refused (put t k v) p ≡ some NoRoom → length (p .free) < need 7 k (treeOf p t)) × (length (p .free) < need 7 k (treeOf p t) → refused (put t k v) p ≡ some NoRoom)
 four-exactly t k v p h = ((judged (put t k v) p) .four-above, refused-four (put t k v) p h)
 
 -- 2 exactly when the tree number is T or above
-pub two-exactly : (c : Call) (p : Pool) → (refused c p ≡ 2 → length (p .trees) ≤ target c) × (length (p .trees) ≤ target c → refused c p ≡ 2)
+pub two-exactly : (c : Call) (p : Pool) → (refused c p ≡ some NoTree → length (p .trees) ≤ target c) × (length (p .trees) ≤ target c → refused c p ≡ some NoTree)
 two-exactly c p = ((judged c p) .two-tree, refused-two c p)
 
 -- and 0 exactly when the tree is there and the nodes suffice
-pub zero-exactly : (c : Call) (p : Pool) → (refused c p ≡ 0 → Free c p) × (Free c p → refused c p ≡ 0)
+pub zero-exactly : (c : Call) (p : Pool) → (refused c p ≡ none → Free c p) × (Free c p → refused c p ≡ none)
 zero-exactly c p = ((judged c p) .zero-free, call-free c p)
 
 -- a get and a remove are never short of nodes
-pub get-never-four : (t k : ℕ) (p : Pool) → refused (get t k) p ≢ 4
+pub get-never-four : (t k : ℕ) (p : Pool) → refused (get t k) p ≢ some NoRoom
 get-never-four t k p e = omega (arith, (judged (get t k) p) .four-above e)
 
-pub remove-never-four : (t k : ℕ) (p : Pool) → refused (remove t k) p ≢ 4
+pub remove-never-four : (t k : ℕ) (p : Pool) → refused (remove t k) p ≢ some NoRoom
 remove-never-four t k p e = omega (arith, (judged (remove t k) p) .four-above e)
 
 -- Calls that change nothing
 
 pub get-same : (t k : ℕ) (p : Pool) → (call (get t k) p) .pool ≡ p
 unfolding done
-get-same t k p = elim (test (eqb (refused (get t k) p) 0)) [
-  | is e ↦ rw (call-done (get t k) p (eqb-true _ _ e), set-getD)
-  | isnt e ↦ rw (call-refused (get t k) p (eqb-false _ _ e))
+get-same t k p = elim (verdict (refused (get t k) p)) [
+  | passes e ↦ rw (call-done (get t k) p e, set-getD)
+  | stops x e ↦ rw (call-refused (get t k) p x e)
 ]
 
 module _ (m : ℕ) (lo : 1 ≤ m) where
@@ -95,7 +98,7 @@ module _ (m : ℕ) (lo : 1 ≤ m) where
 
   -- a remove of an absent key
   pub remove-absent : (t k : ℕ) (p : Pool) → WellFormed m p → t < length (p .trees) → has k (pairs (treeOf p t)) ≡ false →
-      call (remove t k) p ≡ record { answer = nothing; pool = p }
+      call (remove t k) p ≡ record { answer = Nothing; pool = p }
   unfolding done
   remove-absent t k p h there e =
       let a = absent-tree k (treeOf p t) (good-at m (p .trees) t (h .good)) e in
@@ -105,7 +108,7 @@ module _ (m : ℕ) (lo : 1 ≤ m) where
 -- Nodes: what a call takes and what it frees
 
 -- the stack afterwards: so many are taken from the top, then the freed ones put on it, in order
-pub call-stack : (c : Call) (p : Pool) → refused c p ≡ 0 →
+pub call-stack : (c : Call) (p : Pool) → refused c p ≡ none →
     ((call c p) .pool) .free ≡ pushAll (frees c (treeOf p (target c))) (drop (takes c (treeOf p (target c))) (p .free))
 unfolding done
 call-stack c p e = rw (call-done c p e)
@@ -113,14 +116,14 @@ call-stack c p e = rw (call-done c p e)
 pub length-push : (xs s : List ℕ) → length (pushAll xs s) ≡ length xs + length s
 length-push xs s = omega (arith, total-push (λ n. 1) xs s, total-length (pushAll xs s), total-length xs, total-length s)
 
-pub call-left : (c : Call) (p : Pool) → refused c p ≡ 0 →
+pub call-left : (c : Call) (p : Pool) → refused c p ≡ none →
     length (((call c p) .pool) .free) + takes c (treeOf p (target c)) ≡ length (p .free) + length (frees c (treeOf p (target c)))
 call-left c p e =
     let x = treeOf p (target c) in
     rw (call-stack c p e) (omega (arith, length-push (frees c x) (drop (takes c x) (p .free)), length-drop (takes c x) (p .free), (free-call c p e) .enough))
 
 module _ (m : ℕ) (lo : 1 ≤ m) where
-  pub call-nodes : (c : Call) (p : Pool) → WellFormed m p → refused c p ≡ 0 →
+  pub call-nodes : (c : Call) (p : Pool) → WellFormed m p → refused c p ≡ none →
       length (used (((call c p) .pool) .trees)) + length (frees c (treeOf p (target c))) ≡ length (used (p .trees)) + takes c (treeOf p (target c))
   unfolding done
   call-nodes c p h e =
@@ -141,13 +144,13 @@ module _ (m : ℕ) (lo : 1 ≤ m) where
       ))
 
   -- nodes after a put = nodes before + need, and as many fewer are free
-  pub put-nodes : (t k v : ℕ) (p : Pool) → WellFormed m p → refused (put t k v) p ≡ 0 →
+  pub put-nodes : (t k v : ℕ) (p : Pool) → WellFormed m p → refused (put t k v) p ≡ none →
       (length (used (((call (put t k v) p) .pool) .trees)) ≡ length (used (p .trees)) + need 7 k (treeOf p t)) ×
       (length (((call (put t k v) p) .pool) .free) + need 7 k (treeOf p t) ≡ length (p .free))
   put-nodes t k v p h e = (omega (arith, call-nodes (put t k v) p h e), omega (arith, call-left (put t k v) p e))
 
   -- after a remove the freed numbers are the difference
-  pub remove-nodes : (t k : ℕ) (p : Pool) → WellFormed m p → refused (remove t k) p ≡ 0 →
+  pub remove-nodes : (t k : ℕ) (p : Pool) → WellFormed m p → refused (remove t k) p ≡ none →
       (length (used (((call (remove t k) p) .pool) .trees)) + length (freed 7 k (treeOf p t)) ≡ length (used (p .trees))) ×
       (length (((call (remove t k) p) .pool) .free) ≡ length (p .free) + length (freed 7 k (treeOf p t)))
   remove-nodes t k p h e = (omega (arith, call-nodes (remove t k) p h e), omega (arith, call-left (remove t k) p e))
@@ -172,9 +175,8 @@ module _ (m : ℕ) (lo : 1 ≤ m) (hi : m ≤ 4) where
   pub other-nodes : (c : Call) (p : Pool) (s n : ℕ) → WellFormed m p → s ≢ target c → 1 ≤ count n (numbers (treeOf p s)) →
       nodeWords (((call c p) .pool) .trees) n ≡ nodeWords (p .trees) n
   unfolding done
-  other-nodes c p s n h d k = elim (test (eqb (refused c p) 0)) [
-    | is e ↦
-        let r : refused c p ≡ 0 = eqb-true _ _ e in
+  other-nodes c p s n h d k = elim (verdict (refused c p)) [
+    | passes r ↦
         let q = (call c p) .pool in
         let g : WellFormed m q = call-formed m lo hi c p h in
         let a = two-trees n (p .trees) s (target c) d in
@@ -184,5 +186,5 @@ module _ (m : ℕ) (lo : 1 ≤ m) (hi : m ≤ 4) where
         let z : count n (numbers (treeOf q (target c))) ≡ 0 = omega (arith, used-once m q g n) in
         let own : treeOf q (target c) ≡ y = ap (λ (w : Pool). treeOf w (target c)) (ap (λ w. w .pool) (call-done c p r)) ∙ own-tree c p (free-call c p r) in
         rw (call-done c p r) (other-words (p .trees) (target c) y n (omega (arith, used-once m p h n)) (ap (λ (x : Tree). count n (numbers x)) (sym own) ∙ z))
-    | isnt e ↦ rw (call-refused c p (eqb-false _ _ e))
+    | stops x e ↦ rw (call-refused c p x e)
   ]

@@ -7,17 +7,19 @@ use mathlib.Core.Option.{Option, none, some}
 use Prim.Native.Nat.{ℕ, zero, suc, _+_, _-_, _≤_, _<_}
 use native.Mathlib.Omega.{arith}
 use lib.ListN.{length, take, getD}
-use lib.Dec.{ltb, eqb, leb}
-use borrow.Author.Tests.{lt-ltb, le-ltb, ltb-true, eqb-true, eqb-false, ne-eqb}
+use lib.Dec.{ltb, leb}
+use borrow.Author.Tests.{lt-ltb, le-ltb, ltb-true}
 use Rattle.forest.specs.Lists.{sum}
 use Rattle.forest.specs.Pairs.{Item}
 use Rattle.forest.specs.Rows.{Row, Tree, sizes, Good}
 use Rattle.forest.specs.Trees.{leafOf, leafItems}
 use Rattle.forest.specs.declared.Cursor.{Cursor}
-use Rattle.forest.specs.Answers.{refusal}
+use Rattle.forest.specs.declared.Refusal.{Refusal}
+use Rattle.forest.specs.declared.Reply.the-variants.{Refused}
 use Rattle.forest.specs.Pools.{Pool, WellFormed, remove, treeOf}
 use Rattle.forest.specs.Cursors.{Spot, off, on, leaves, sizeAt, Fits, pairAt, leafStart, seek, settle, next, prev, position, spotAt, Stands, spotOf, pathIn, stands, Move, to-first, to-key, to-next, to-prev, to-settled, to-remove, reads, removed, leftPool, removedSpot, leftSpot, blocked, moveFrom, move}
 use Rattle.forest.proofs.ListLaws.{is, isnt, test, tests, offset-lt}
+use Rattle.forest.proofs.Reasons.{passes, stops, verdict, number}
 use Rattle.forest.proofs.PairLaws.{place-le}
 use Rattle.forest.proofs.RowLaws.{length-items, parent-there}
 use Rattle.forest.proofs.TowerLaws.{tower-some}
@@ -94,22 +96,22 @@ fits-at L i = elim (test (ltb i (sum (sizes L)))) [
 ]
 
 -- a move that is refused changes nothing
-pub move-refused : (v : Move) (c : Cursor) (p : Pool) → blocked v c p ≢ 0 → move v c p ≡ record { answer = refusal (blocked v c p); cursor = c; pool = p }
+pub move-refused : (v : Move) (c : Cursor) (p : Pool) (x : Refusal) → blocked v c p ≡ some x → move v c p ≡ record { answer = Refused x; cursor = c; pool = p }
 unfolding move
-move-refused v c p e = simp (ne-eqb (blocked v c p) 0 e)
+move-refused v c p x e = simp e
 
-pub move-done : (v : Move) (c : Cursor) (p : Pool) → blocked v c p ≡ 0 → move v c p ≡ moveFrom v (c .tree) (spotOf (treeOf p (c .tree)) (pathIn c)) p
+pub move-done : (v : Move) (c : Cursor) (p : Pool) → blocked v c p ≡ none → move v c p ≡ moveFrom v (c .tree) (spotOf (treeOf p (c .tree)) (pathIn c)) p
 unfolding move
 move-done v c p e = simp e
 
 -- a move that reads its cursor and is not refused: the cursor stands
-pub blocked-stands : (v : Move) (c : Cursor) (p : Pool) → blocked v c p ≡ 0 → reads v ≡ true → stands (treeOf p (c .tree)) c ≡ true
+pub blocked-stands : (v : Move) (c : Cursor) (p : Pool) → blocked v c p ≡ none → reads v ≡ true → stands (treeOf p (c .tree)) c ≡ true
 unfolding blocked
 blocked-stands v c p e r = elim (test (leb (length (p .trees)) (c .tree))) [
-  | is a ↦ absurd (let z = simp a at e in omega arith)
+  | is a ↦ absurd (let z = ap number (simp a at e) in omega arith)
   | isnt a ↦ elim (test (stands (treeOf p (c .tree)) c)) [
     | is b ↦ b
-    | isnt b ↦ absurd (let z = simp (a, r, b) at e in omega arith)
+    | isnt b ↦ absurd (let z = ap number (simp (a, r, b) at e) in omega arith)
   ]
 ]
 
@@ -129,17 +131,17 @@ module _ (m : ℕ) (lo : 1 ≤ m) (hi : m ≤ 4) where
   -- a move keeps the pool well formed
   pub move-formed : (v : Move) (c : Cursor) (p : Pool) → WellFormed m p → WellFormed m ((move v c p) .pool)
   unfolding moveFrom
-  move-formed v c p h = elim (test (eqb (blocked v c p) 0)) [
-    | is e ↦ rw (move-done v c p (eqb-true _ _ e)) (left-formed v (c .tree) (spotOf (treeOf p (c .tree)) (pathIn c)) p h)
-    | isnt e ↦ rw (move-refused v c p (eqb-false _ _ e)) h
+  move-formed v c p h = elim (verdict (blocked v c p)) [
+    | passes e ↦ rw (move-done v c p e) (left-formed v (c .tree) (spotOf (treeOf p (c .tree)) (pathIn c)) p h)
+    | stops x e ↦ rw (move-refused v c p x e) h
   ]
 
   -- the pool after any move but a remove is the same
   pub move-reads : (v : Move) (c : Cursor) (p : Pool) → v ≢ to-remove → (move v c p) .pool ≡ p
   unfolding moveFrom
-  move-reads v c p n = elim (test (eqb (blocked v c p) 0)) [
-    | is e ↦ rw (move-done v c p (eqb-true _ _ e)) (same v (c .tree) (spotOf (treeOf p (c .tree)) (pathIn c)) n)
-    | isnt e ↦ rw (move-refused v c p (eqb-false _ _ e))
+  move-reads v c p n = elim (verdict (blocked v c p)) [
+    | passes e ↦ rw (move-done v c p e) (same v (c .tree) (spotOf (treeOf p (c .tree)) (pathIn c)) n)
+    | stops x e ↦ rw (move-refused v c p x e)
   ]
     where
       same : (v : Move) (t : ℕ) (s : Spot) → v ≢ to-remove → leftPool v t s p ≡ p
@@ -164,7 +166,7 @@ module _ (m : ℕ) (lo : 1 ≤ m) (hi : m ≤ 4) where
       go none = f refl
       go (some x) = fits-at (leaves (treeOf (removed t (some x) p) t)) (position (leaves (treeOf p t)) s)
 
-  pub moved-stands : (v : Move) (c : Cursor) (p : Pool) → WellFormed m p → blocked v c p ≡ 0 →
+  pub moved-stands : (v : Move) (c : Cursor) (p : Pool) → WellFormed m p → blocked v c p ≡ none →
       Stands (treeOf ((move v c p) .pool) (c .tree)) ((move v c p) .cursor)
   unfolding moveFrom
   moved-stands v c p h e =

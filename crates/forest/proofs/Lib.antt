@@ -1,6 +1,7 @@
 pub mod Trials
 pub mod Recorded
 pub mod ListLaws
+pub mod Reasons
 pub mod Slices
 pub mod PairLaws
 pub mod RowLaws

@@ -3,7 +3,7 @@ use mathlib.Core.Path.{_≡_, refl, sym, ap, _∙_}
 use mathlib.Core.List.{List, [], _∷_, _++_, map}
 use mathlib.Core.Bool.{true, false}
 use mathlib.Core.Logic.{_≢_}
-use mathlib.Core.Option.{none, some}
+use mathlib.Core.Option.{Option, none, some}
 use Prim.Native.Nat.{ℕ, zero, suc, _+_, _-_, _≤_, _<_}
 use native.Mathlib.Omega.{arith}
 use lib.ListN.{length, getElem?}
@@ -13,12 +13,16 @@ use Rattle.forest.specs.Lists.{sum}
 use Rattle.forest.specs.Pairs.{Item, lookup, place}
 use Rattle.forest.specs.Rows.{Row, Tree, sizes, itemsAt, Good}
 use Rattle.forest.specs.Trees.{pairs}
-use Rattle.forest.specs.declared.Answer.{Answer}
+use Rattle.forest.specs.declared.Refusal.{Refusal}
+use Rattle.forest.specs.declared.Refusal.the-variants.{NoTree, NoPlace}
+use Rattle.forest.specs.declared.Reply.{Reply}
+use Rattle.forest.specs.declared.Reply.the-variants.{Nothing}
 use Rattle.forest.specs.declared.Cursor.{Cursor}
-use Rattle.forest.specs.Answers.{nothing, held, told}
+use Rattle.forest.specs.Answers.{held, told}
 use Rattle.forest.specs.Pools.{Pool, WellFormed, treeOf}
 use Rattle.forest.specs.Cursors.{Spot, off, on, leaves, sizeAt, Fits, pairAt, seek, settle, next, prev, prevPair, position, spotAt, pathOf, cursorAt, Stands, spotOf, pathIn, stands, Move, to-first, to-key, to-next, to-prev, to-settled, tells, reads, leftPool, leftSpot, Moved, blocked, moveFrom, move}
 use Rattle.forest.proofs.ListLaws.{is, isnt, test, tests, cons-eq, parent-start}
+use Rattle.forest.proofs.Reasons.{number}
 use Rattle.forest.proofs.RowLaws.{length-items}
 use Rattle.forest.proofs.TowerLaws.{tower-some}
 use Rattle.forest.proofs.TreeLaws.{NoneEmpty, none-empty, none-at, lands, pairs-get}
@@ -107,7 +111,7 @@ abbrev pub rank : Pool → Cursor → ℕ
 rank p c = position (row p c) (spotIn p c)
 
 -- a move answers a, and its cursor comes to the spot s
-pub record MovesTo (r : Moved) (a : Answer) (s : Spot) : Type 0 where
+pub record MovesTo (r : Moved) (a : Reply) (s : Spot) : Type 0 where
   pub answers : r .answer ≡ a
   pub spot : spotIn (r .pool) (r .cursor) ≡ s
 
@@ -118,11 +122,11 @@ module _ (m : ℕ) (lo : 1 ≤ m) (hi : m ≤ 4) (p : Pool) (h : WellFormed m p)
   some-leaves : NoneEmpty (row p c)
   some-leaves = leaves-some m (treeOf p (c .tree)) lo good
 
-  pub fits-in : (v : Move) → blocked v c p ≡ 0 → reads v ≡ true → Fits (row p c) (spotIn p c)
+  pub fits-in : (v : Move) → blocked v c p ≡ none → reads v ≡ true → Fits (row p c) (spotIn p c)
   fits-in v e r = stands-fits (treeOf p (c .tree)) c (blocked-stands v c p e r)
 
   -- of any move
-  pub goes : (v : Move) → blocked v c p ≡ 0 →
+  pub goes : (v : Move) → blocked v c p ≡ none →
       MovesTo (move v c p) (tells v (treeOf p (c .tree)) (spotIn p c))
       (leftSpot v (row p c) (leaves (treeOf (leftPool v (c .tree) (spotIn p c) p) (c .tree))) (spotIn p c))
   unfolding moveFrom
@@ -143,33 +147,33 @@ module _ (m : ℕ) (lo : 1 ≤ m) (hi : m ≤ 4) (p : Pool) (h : WellFormed m p)
   pair-of i = pair-at (row p c) i ∙ ap (λ (us : List Item). getElem? us i) (leaves-joined (treeOf p (c .tree)))
 
   -- first: the least pair
-  pub first-goes : blocked to-first c p ≡ 0 → MovesTo (move to-first c p) (told (getElem? (list p c) 0)) (spotAt (row p c) 0)
+  pub first-goes : blocked to-first c p ≡ none → MovesTo (move to-first c p) (told (getElem? (list p c) 0)) (spotAt (row p c) 0)
   first-goes e =
       let g = goes to-first e in
       let z = first-at (row p c) some-leaves in
       record { answers = g .answers ∙ ap told (ap (pairAt (row p c)) z ∙ pair-of 0); spot = g .spot ∙ z }
 
   -- seek: the value held, and the place of the key
-  pub seek-goes : (k : ℕ) → blocked (to-key k) c p ≡ 0 → MovesTo (move (to-key k) c p) (held (lookup k (list p c))) (seek k (row p c))
+  pub seek-goes : (k : ℕ) → blocked (to-key k) c p ≡ none → MovesTo (move (to-key k) c p) (held (lookup k (list p c))) (seek k (row p c))
   seek-goes k e =
       let g = goes (to-key k) e in
       record { answers = g .answers ∙ ap held (pairs-get m 7 k lo (treeOf p (c .tree)) good); spot = g .spot }
 
   -- settle: the pair whose place the cursor has
-  pub settle-goes : blocked to-settled c p ≡ 0 → MovesTo (move to-settled c p) nothing (spotAt (row p c) (rank p c))
+  pub settle-goes : blocked to-settled c p ≡ none → MovesTo (move to-settled c p) Nothing (spotAt (row p c) (rank p c))
   settle-goes e =
       let g = goes to-settled e in
       record { answers = g .answers; spot = g .spot ∙ settle-any (row p c) (spotIn p c) some-leaves (fits-in to-settled e refl) }
 
   -- next: from a pair the one after it; from no pair the one whose place the cursor has
-  pub next-goes : (y : Item) → blocked to-next c p ≡ 0 → pairAt (row p c) (spotIn p c) ≡ some y →
+  pub next-goes : (y : Item) → blocked to-next c p ≡ none → pairAt (row p c) (spotIn p c) ≡ some y →
       MovesTo (move to-next c p) (told (getElem? (list p c) (suc (rank p c)))) (spotAt (row p c) (suc (rank p c)))
   next-goes y e q =
       let g = goes to-next e in
       let z = next-from-pair (row p c) (spotIn p c) y some-leaves (fits-in to-next e refl) q in
       record { answers = g .answers ∙ ap told (ap (pairAt (row p c)) z ∙ pair-of (suc (rank p c))); spot = g .spot ∙ z }
 
-  pub next-past-goes : blocked to-next c p ≡ 0 → pairAt (row p c) (spotIn p c) ≡ none →
+  pub next-past-goes : blocked to-next c p ≡ none → pairAt (row p c) (spotIn p c) ≡ none →
       MovesTo (move to-next c p) (told (getElem? (list p c) (rank p c))) (spotAt (row p c) (rank p c))
   next-past-goes e q =
       let g = goes to-next e in
@@ -177,7 +181,7 @@ module _ (m : ℕ) (lo : 1 ≤ m) (hi : m ≤ 4) (p : Pool) (h : WellFormed m p)
       record { answers = g .answers ∙ ap told (ap (pairAt (row p c)) z ∙ pair-of (rank p c)); spot = g .spot ∙ z }
 
   -- prev: the pair before the place; at the first none, unmoved
-  pub prev-goes : blocked to-prev c p ≡ 0 → 1 ≤ rank p c →
+  pub prev-goes : blocked to-prev c p ≡ none → 1 ≤ rank p c →
       MovesTo (move to-prev c p) (told (getElem? (list p c) (rank p c - 1))) (spotAt (row p c) (rank p c - 1))
   prev-goes e k =
       let g = goes to-prev e in
@@ -187,7 +191,7 @@ module _ (m : ℕ) (lo : 1 ≤ m) (hi : m ≤ 4) (p : Pool) (h : WellFormed m p)
         spot = g .spot ∙ z;
       }
 
-  pub prev-first-goes : blocked to-prev c p ≡ 0 → rank p c ≡ 0 → MovesTo (move to-prev c p) nothing (spotIn p c)
+  pub prev-first-goes : blocked to-prev c p ≡ none → rank p c ≡ 0 → MovesTo (move to-prev c p) Nothing (spotIn p c)
   prev-first-goes e k =
       let g = goes to-prev e in
       let z = prev-at-first (row p c) (spotIn p c) some-leaves (fits-in to-prev e refl) k in
@@ -195,11 +199,11 @@ module _ (m : ℕ) (lo : 1 ≤ m) (hi : m ≤ 4) (p : Pool) (h : WellFormed m p)
 
 -- The table of refusals
 
-pub record Barred (v : Move) (c : Cursor) (p : Pool) (n : ℕ) : Type 0 where
-  pub there : n ≢ 2 → c .tree < length (p .trees)
-  pub two-tree : n ≡ 2 → length (p .trees) ≤ c .tree
-  pub three-reads : n ≡ 3 → reads v ≡ true
-  pub three-stands : n ≡ 3 → stands (treeOf p (c .tree)) c ≡ false
+pub record Barred (v : Move) (c : Cursor) (p : Pool) (o : Option Refusal) : Type 0 where
+  pub there : o ≢ some NoTree → c .tree < length (p .trees)
+  pub two-tree : o ≡ some NoTree → length (p .trees) ≤ c .tree
+  pub three-reads : o ≡ some NoPlace → reads v ≡ true
+  pub three-stands : o ≡ some NoPlace → stands (treeOf p (c .tree)) c ≡ false
 
 pub barred : (v : Move) (c : Cursor) (p : Pool) → Barred v c p (blocked v c p)
 unfolding blocked
@@ -207,42 +211,42 @@ barred v c p = elim (test (leb (length (p .trees)) (c .tree))) [
   | is e ↦ simp e (record {
     there = λ n. absurd (n refl);
     two-tree = λ z. leb-true _ _ e;
-    three-reads = λ z. absurd (omega arith);
-    three-stands = λ z. absurd (omega arith);
+    three-reads = λ z. absurd (omega (arith, ap number z));
+    three-stands = λ z. absurd (omega (arith, ap number z));
   })
   | isnt e ↦ elim (test (reads v)) [
     | is r ↦ elim (test (stands (treeOf p (c .tree)) c)) [
       | is s ↦ simp (e, r, s) (record {
         there = λ n. leb-false _ _ e;
-        two-tree = λ z. absurd (omega arith);
-        three-reads = λ z. absurd (omega arith);
-        three-stands = λ z. absurd (omega arith);
+        two-tree = λ z. absurd (omega (arith, ap number z));
+        three-reads = λ z. absurd (omega (arith, ap number z));
+        three-stands = λ z. absurd (omega (arith, ap number z));
       })
-      | isnt s ↦ simp (e, r, s) (record { there = λ n. leb-false _ _ e; two-tree = λ z. absurd (omega arith); three-reads = λ z. r; three-stands = λ z. s })
+      | isnt s ↦ simp (e, r, s) (record { there = λ n. leb-false _ _ e; two-tree = λ z. absurd (omega (arith, ap number z)); three-reads = λ z. r; three-stands = λ z. s })
     ]
     | isnt r ↦ simp (e, r) (record {
       there = λ n. leb-false _ _ e;
-      two-tree = λ z. absurd (omega arith);
-      three-reads = λ z. absurd (omega arith);
-      three-stands = λ z. absurd (omega arith);
+      two-tree = λ z. absurd (omega (arith, ap number z));
+      three-reads = λ z. absurd (omega (arith, ap number z));
+      three-stands = λ z. absurd (omega (arith, ap number z));
     })
   ]
 ]
 
 -- 2 exactly when the tree number is T or above
-pub move-two : (v : Move) (c : Cursor) (p : Pool) → (blocked v c p ≡ 2 → length (p .trees) ≤ c .tree) × (length (p .trees) ≤ c .tree → blocked v c p ≡ 2)
+pub move-two : (v : Move) (c : Cursor) (p : Pool) → (blocked v c p ≡ some NoTree → length (p .trees) ≤ c .tree) × (length (p .trees) ≤ c .tree → blocked v c p ≡ some NoTree)
 unfolding blocked
 move-two v c p = ((barred v c p) .two-tree, λ h. simp (le-leb (length (p .trees)) (c .tree) h))
 
 -- else 3 exactly when the call reads its cursor and that does not stand
 pub move-three : (v : Move) (c : Cursor) (p : Pool) → c .tree < length (p .trees) →
-    (blocked v c p ≡ 3 → (reads v ≡ true) × (stands (treeOf p (c .tree)) c ≡ false)) × ((reads v ≡ true) × (stands (treeOf p (c .tree)) c ≡ false) → blocked v c p ≡ 3)
+    (blocked v c p ≡ some NoPlace → (reads v ≡ true) × (stands (treeOf p (c .tree)) c ≡ false)) × ((reads v ≡ true) × (stands (treeOf p (c .tree)) c ≡ false) → blocked v c p ≡ some NoPlace)
 unfolding blocked
 move-three v c p h =
     (λ z. ((barred v c p) .three-reads z, (barred v c p) .three-stands z), λ q. simp (lt-leb (length (p .trees)) (c .tree) h, q .0, q .1))
 
 -- else none
-pub move-free : (v : Move) (c : Cursor) (p : Pool) → c .tree < length (p .trees) → (reads v ≡ true → stands (treeOf p (c .tree)) c ≡ true) → blocked v c p ≡ 0
+pub move-free : (v : Move) (c : Cursor) (p : Pool) → c .tree < length (p .trees) → (reads v ≡ true → stands (treeOf p (c .tree)) c ≡ true) → blocked v c p ≡ none
 unfolding blocked
 move-free v c p h s = elim (test (reads v)) [
   | is r ↦ simp (lt-leb (length (p .trees)) (c .tree) h, r, s r)
@@ -250,13 +254,13 @@ move-free v c p h s = elim (test (reads v)) [
 ]
 
 -- A cursor that a move hands back stands, so the next move is not refused
-pub again : (m : ℕ) → 1 ≤ m → m ≤ 4 → (v w : Move) (c : Cursor) (p : Pool) → WellFormed m p → blocked v c p ≡ 0 → (move v c p) .pool ≡ p →
-    (((move v c p) .cursor) .tree ≡ c .tree) × (blocked w ((move v c p) .cursor) p ≡ 0)
+pub again : (m : ℕ) → 1 ≤ m → m ≤ 4 → (v w : Move) (c : Cursor) (p : Pool) → WellFormed m p → blocked v c p ≡ none → (move v c p) .pool ≡ p →
+    (((move v c p) .cursor) .tree ≡ c .tree) × (blocked w ((move v c p) .cursor) p ≡ none)
 unfolding moveFrom
 again m lo hi v w c p h e q =
     let d = (move v c p) .cursor in
     let t : d .tree ≡ c .tree = ap (λ r. (r .cursor) .tree) (move-done v c p e) in
-    let i : c .tree < length (p .trees) = (barred v c p) .there (omega (arith, e)) in
+    let i : c .tree < length (p .trees) = (barred v c p) .there (λ z. omega (arith, ap number (sym e ∙ z))) in
     let s : Stands (treeOf p (c .tree)) d = rw q at (moved-stands m lo hi v c p h e) in
     let k : stands (treeOf p (c .tree)) d ≡ true =
     stands-yes m (treeOf p (c .tree)) d (good-at m (p .trees) (c .tree) (h .good)) (omega (arith, six-levels m p (c .tree) h)) s in
@@ -265,12 +269,12 @@ again m lo hi v w c p h e q =
 -- The traversal: first, then next again and again, tells the pairs in order, each once, and then none
 
 -- the answers to n calls of next, from a cursor
-abbrev pub nexts : ℕ → Cursor → Pool → List Answer
+abbrev pub nexts : ℕ → Cursor → Pool → List Reply
 nexts zero c p = []
 nexts (suc n) c p = (move to-next c p) .answer ∷ nexts n ((move to-next c p) .cursor) p
 
 -- what is told of n places of a list, from the i-th on
-abbrev tellFrom : ℕ → ℕ → List Item → List Answer
+abbrev tellFrom : ℕ → ℕ → List Item → List Reply
 tellFrom zero i us = []
 tellFrom (suc n) i us = told (getElem? us i) ∷ tellFrom n (suc i) us
 
@@ -278,7 +282,7 @@ tell-tail : (n i : ℕ) (u : Item) (us : List Item) → tellFrom n (suc i) (u �
 tell-tail zero i u us = refl
 tell-tail (suc n) i u us = ap (told (getElem? us i) ∷_) (tell-tail n (suc i) u us)
 
-tell-all : (us : List Item) → tellFrom (suc (length us)) 0 us ≡ map (λ (y : Item). told (some y)) us ++ (nothing ∷ [])
+tell-all : (us : List Item) → tellFrom (suc (length us)) 0 us ≡ map (λ (y : Item). told (some y)) us ++ (Nothing ∷ [])
 tell-all [] = refl
 tell-all (u ∷ us) = ap (told (some u) ∷_) (tell-tail (suc (length us)) 0 u us ∙ tell-all us)
 
@@ -289,14 +293,14 @@ module _ (m : ℕ) (lo : 1 ≤ m) (hi : m ≤ 4) (p : Pool) (h : WellFormed m p)
     | isnt k ↦ rw (spot-end L i (ltb-false _ _ k), spot-end L (suc i) (omega tests))
   ]
 
-  next-tells : (i : ℕ) (c : Cursor) → blocked to-next c p ≡ 0 → spotIn p c ≡ spotAt (row p c) i →
+  next-tells : (i : ℕ) (c : Cursor) → blocked to-next c p ≡ none → spotIn p c ≡ spotAt (row p c) i →
       MovesTo (move to-next c p) (told (getElem? (list p c) (suc i))) (spotAt (row p c) (suc i))
   next-tells i c e q =
       let g = goes m lo hi p h c to-next e in
       let z = ap (next (row p c)) q ∙ next-place (row p c) i (some-leaves m lo hi p h c) in
       record { answers = g .answers ∙ ap told (ap (pairAt (row p c)) z ∙ pair-of m lo hi p h c (suc i)); spot = g .spot ∙ z }
 
-  nexts-at : (n i : ℕ) (c : Cursor) → blocked to-next c p ≡ 0 → spotIn p c ≡ spotAt (row p c) i → nexts n c p ≡ tellFrom n (suc i) (list p c)
+  nexts-at : (n i : ℕ) (c : Cursor) → blocked to-next c p ≡ none → spotIn p c ≡ spotAt (row p c) i → nexts n c p ≡ tellFrom n (suc i) (list p c)
   nexts-at zero i c e q = refl
   nexts-at (suc n) i c e q =
       let d = (move to-next c p) .cursor in
@@ -307,8 +311,8 @@ module _ (m : ℕ) (lo : 1 ≤ m) (hi : m ≤ 4) (p : Pool) (h : WellFormed m p)
       let there′ : spotIn p d ≡ spotAt (row p d) (suc i) = there ∙ ap (λ (t : ℕ). spotAt (leaves (treeOf p t)) (suc i)) (sym (a .0)) in
       cons-eq (g .answers) (nexts-at n (suc i) d (a .1) there′ ∙ ap (λ (t : ℕ). tellFrom n (suc (suc i)) (pairs (treeOf p t))) (a .0))
 
-  pub traversal : (c : Cursor) → blocked to-first c p ≡ 0 →
-      (move to-first c p) .answer ∷ nexts (length (list p c)) ((move to-first c p) .cursor) p ≡ map (λ (y : Item). told (some y)) (list p c) ++ (nothing ∷ [])
+  pub traversal : (c : Cursor) → blocked to-first c p ≡ none →
+      (move to-first c p) .answer ∷ nexts (length (list p c)) ((move to-first c p) .cursor) p ≡ map (λ (y : Item). told (some y)) (list p c) ++ (Nothing ∷ [])
   traversal c e =
       let d = (move to-first c p) .cursor in
       let same : (move to-first c p) .pool ≡ p = move-reads m lo hi to-first c p (λ z. let y : _≡_ {A = ℕ} 0 1 = cc in omega arith) in

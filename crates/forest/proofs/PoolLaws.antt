@@ -8,14 +8,18 @@ use native.Mathlib.Omega.{arith}
 use lib.ListN.{length, drop, getD, set, length-set, length-append}
 use lib.Seq.{getD-set-same, getD-set-other, set-getD}
 use lib.Dec.{ltb, eqb, leb}
-use borrow.Author.Tests.{lt-ltb, le-ltb, ltb-false, eqb-true, eqb-false, ne-eqb, le-leb, lt-leb, leb-false}
+use borrow.Author.Tests.{lt-ltb, le-ltb, ltb-false, le-leb, lt-leb, leb-false}
 use Rattle.forest.specs.Lists.{once, total, count}
 use Rattle.forest.specs.Pairs.{lookup, has}
 use Rattle.forest.specs.Rows.{Tree, Good}
 use Rattle.forest.specs.Trees.{pairs, numbers, leafItems, putTree, need, getTree}
-use Rattle.forest.specs.Answers.{refusal, held}
+use Rattle.forest.specs.declared.Refusal.{Refusal}
+use Rattle.forest.specs.declared.Refusal.the-variants.{NoTree, NoRoom}
+use Rattle.forest.specs.declared.Reply.the-variants.{Refused}
+use Rattle.forest.specs.Answers.{held}
 use Rattle.forest.specs.Pools.{Pool, used, AllGood, WellFormed, treeOf, pushAll, Call, put, remove, get, target, after, takes, frees, says, refused, done, call, acts, keyOf}
 use Rattle.forest.proofs.ListLaws.{is, isnt, test, total-append}
+use Rattle.forest.proofs.Reasons.{passes, stops, verdict, number}
 use Rattle.forest.proofs.PairLaws.{lookup-has, lookup-insert}
 use Rattle.forest.proofs.TowerLaws.{weight}
 use Rattle.forest.proofs.TreeLaws
@@ -73,57 +77,57 @@ pub record Free (c : Call) (p : Pool) : Type 0 where
   pub there : target c < length (p .trees)
   pub enough : takes c (treeOf p (target c)) ≤ length (p .free)
 
-pub free-call : (c : Call) (p : Pool) → refused c p ≡ 0 → Free c p
+pub free-call : (c : Call) (p : Pool) → refused c p ≡ none → Free c p
 unfolding refused
 free-call c p e = elim (test (leb (length (p .trees)) (target c))) [
-  | is f ↦ absurd (let z = simp f at e in omega arith)
+  | is f ↦ absurd (let z = ap number (simp f at e) in omega arith)
   | isnt f ↦ elim (test (ltb (length (p .free)) (takes c (treeOf p (target c))))) [
-    | is g ↦ absurd (let z = simp (f, g) at e in omega arith)
+    | is g ↦ absurd (let z = ap number (simp (f, g) at e) in omega arith)
     | isnt g ↦ record { there = leb-false _ _ f; enough = ltb-false _ _ g }
   ]
 ]
 
-pub call-free : (c : Call) (p : Pool) → Free c p → refused c p ≡ 0
+pub call-free : (c : Call) (p : Pool) → Free c p → refused c p ≡ none
 unfolding refused
 call-free c p f = simp (lt-leb (length (p .trees)) (target c) (f .there), le-ltb (length (p .free)) (takes c (treeOf p (target c))) (f .enough))
 
 -- the two ways of a call
-pub call-done : (c : Call) (p : Pool) → refused c p ≡ 0 → call c p ≡ record { answer = says c (treeOf p (target c)); pool = done c p }
+pub call-done : (c : Call) (p : Pool) → refused c p ≡ none → call c p ≡ record { answer = says c (treeOf p (target c)); pool = done c p }
 unfolding call
 call-done c p e = simp e
 
--- a call that is refused changes nothing, and answers with its number
-pub call-refused : (c : Call) (p : Pool) → refused c p ≢ 0 → call c p ≡ record { answer = refusal (refused c p); pool = p }
+-- a call that is refused changes nothing, and answers with the reason
+pub call-refused : (c : Call) (p : Pool) (x : Refusal) → refused c p ≡ some x → call c p ≡ record { answer = Refused x; pool = p }
 unfolding call
-call-refused c p e = simp (ne-eqb (refused c p) 0 e)
+call-refused c p x e = simp e
 
 -- the table: 2 for a tree that is not there, else 4 where the nodes do not suffice, else none
-pub refused-two : (c : Call) (p : Pool) → length (p .trees) ≤ target c → refused c p ≡ 2
+pub refused-two : (c : Call) (p : Pool) → length (p .trees) ≤ target c → refused c p ≡ some NoTree
 unfolding refused
 refused-two c p h = simp (le-leb (length (p .trees)) (target c) h)
 
-pub refused-four : (c : Call) (p : Pool) → target c < length (p .trees) → length (p .free) < takes c (treeOf p (target c)) → refused c p ≡ 4
+pub refused-four : (c : Call) (p : Pool) → target c < length (p .trees) → length (p .free) < takes c (treeOf p (target c)) → refused c p ≡ some NoRoom
 unfolding refused
 refused-four c p h k = simp (lt-leb (length (p .trees)) (target c) h, lt-ltb (length (p .free)) (takes c (treeOf p (target c))) k)
 
 -- other trees are untouched
 pub other-trees : (c : Call) (p : Pool) (t : ℕ) → t ≢ target c → treeOf ((call c p) .pool) t ≡ treeOf p t
 unfolding call done
-other-trees c p t h = elim (test (eqb (refused c p) 0)) [
-  | is e ↦ simp e (getD-set-other (p .trees) (target c) t (after c (p .free) (treeOf p (target c))) [] h)
-  | isnt e ↦ simp e
+other-trees c p t h = elim (verdict (refused c p)) [
+  | passes e ↦ simp e (getD-set-other (p .trees) (target c) t (after c (p .free) (treeOf p (target c))) [] h)
+  | stops x e ↦ simp e
 ]
 
 pub same-trees : (c : Call) (p : Pool) → length (((call c p) .pool) .trees) ≡ length (p .trees)
 unfolding call done
-same-trees c p = elim (test (eqb (refused c p) 0)) [
-  | is e ↦ simp (e, length-set)
-  | isnt e ↦ simp e
+same-trees c p = elim (verdict (refused c p)) [
+  | passes e ↦ simp (e, length-set)
+  | stops x e ↦ simp e
 ]
 
 pub same-count : (c : Call) (p : Pool) → ((call c p) .pool) .count ≡ p .count
 unfolding call done
-same-count c p = elim (test (eqb (refused c p) 0)) [ is e ↦ simp e | isnt e ↦ simp e ]
+same-count c p = elim (verdict (refused c p)) [ passes e ↦ simp e | stops x e ↦ simp e ]
 
 pub own-tree : (c : Call) (p : Pool) → Free c p → treeOf (done c p) (target c) ≡ after c (p .free) (treeOf p (target c))
 unfolding done
@@ -157,18 +161,18 @@ module _ (m : ℕ) (lo : 1 ≤ m) where
 
     -- a call keeps the pool well formed
     pub call-formed : (c : Call) (p : Pool) → WellFormed m p → WellFormed m ((call c p) .pool)
-    call-formed c p h = elim (test (eqb (refused c p) 0)) [
-      | is e ↦ rw (call-done c p (eqb-true _ _ e)) (done-formed c p h (free-call c p (eqb-true _ _ e)))
-      | isnt e ↦ rw (call-refused c p (eqb-false _ _ e)) h
+    call-formed c p h = elim (verdict (refused c p)) [
+      | passes e ↦ rw (call-done c p e) (done-formed c p h (free-call c p e))
+      | stops x e ↦ rw (call-refused c p x e) h
     ]
 
   -- what a call that is not refused means
-  pub call-pairs : (c : Call) (p : Pool) → WellFormed m p → refused c p ≡ 0 →
+  pub call-pairs : (c : Call) (p : Pool) → WellFormed m p → refused c p ≡ none →
       pairs (treeOf ((call c p) .pool) (target c)) ≡ acts c (pairs (treeOf p (target c)))
   call-pairs c p h e =
       rw (call-done c p e, own-tree c p (free-call c p e)) (pairs-after m lo c (p .free) (treeOf p (target c)) (good-at m (p .trees) (target c) (h .good)))
 
-  pub call-answer : (c : Call) (p : Pool) → WellFormed m p → refused c p ≡ 0 →
+  pub call-answer : (c : Call) (p : Pool) → WellFormed m p → refused c p ≡ none →
       (call c p) .answer ≡ held (lookup (keyOf c) (pairs (treeOf p (target c))))
   call-answer c p h e = rw (call-done c p e) (says-pairs m lo c (treeOf p (target c)) (good-at m (p .trees) (target c) (h .good)))
 
@@ -190,7 +194,7 @@ module _ (m : ℕ) (lo : 1 ≤ m) where
       let s : putTree 7 k v (p .free) (treeOf p t) ≡ treeOf p t = TreeLaws.put-same m 7 k lo v (p .free) (treeOf p t) (good-at m (p .trees) t (h .good)) e in
       rw (call-done (put t k v) p (call-free (put t k v) p f), e, s, n, set-getD)
 
-  pub put-twice : m ≤ 4 → (t k v : ℕ) (p : Pool) → WellFormed m p → refused (put t k v) p ≡ 0 →
+  pub put-twice : m ≤ 4 → (t k v : ℕ) (p : Pool) → WellFormed m p → refused (put t k v) p ≡ none →
       call (put t k v) ((call (put t k v) p) .pool) ≡ record { answer = held (some v); pool = (call (put t k v) p) .pool }
   put-twice hi t k v p h e =
       let q = (call (put t k v) p) .pool in

@@ -2,12 +2,13 @@
 -- and words that are not sound
 use mathlib.Core.Path.{_≡_, refl, ap}
 use mathlib.Core.List.{List, [], _∷_}
-use mathlib.Core.Option.{some}
+use mathlib.Core.Option.{none, some}
 use Prim.Native.Nat.{ℕ}
 use native.Mathlib.Omega.{arith}
 use lib.ListN.{length}
 use Rattle.forest.specs.Rows.{Tree}
 use Rattle.forest.specs.declared.Cursor.{Cursor}
+use Rattle.forest.specs.declared.Refusal.the-variants.{NoTree, NoPlace, NoRoom}
 use Rattle.forest.specs.Pools.{Pool, WellFormed, Sound, encode, Call, put, get, refused, run, fresh}
 use Rattle.forest.specs.Cursors.{off, Stands, pairAt, cursorAt, to-key, to-next, to-remove, move, blocked}
 use Rattle.forest.proofs.CountLaws.{fresh-formed, encode-length}
@@ -33,7 +34,7 @@ pool-sound = record { pool = pool; formed = pool-formed; same = refl }
 abbrev pub cursor : Cursor
 cursor = (move (to-key 30) (cursorAt 0 []) pool) .cursor
 
-pub cursor-free : blocked to-remove cursor pool ≡ 0
+pub cursor-free : blocked to-remove cursor pool ≡ none
 unfolding steps
 cursor-free = refl
 
@@ -46,15 +47,15 @@ pub off-stands : (t : Tree) (n : ℕ) → Stands t (cursorAt n [])
 off-stands t n = record { spot = off; fits = tt; same = refl }
 
 -- a refusal of each kind: no such tree, no such place, no room
-pub refused-tree : refused (get 2 5) pool ≡ 2
+pub refused-tree : refused (get 2 5) pool ≡ some NoTree
 unfolding steps
 refused-tree = refl
 
-pub refused-place : blocked to-next (cursorAt 0 ((1, 0) ∷ [])) pool ≡ 3
+pub refused-place : blocked to-next (cursorAt 0 ((1, 0) ∷ [])) pool ≡ some NoPlace
 unfolding steps
 refused-place = refl
 
-pub refused-room : refused (put 0 48 1) (run (put 0 15 1 ∷ put 0 17 1 ∷ put 0 18 1 ∷ put 0 25 1 ∷ put 0 45 1 ∷ put 0 47 1 ∷ []) pool) ≡ 4
+pub refused-room : refused (put 0 48 1) (run (put 0 15 1 ∷ put 0 17 1 ∷ put 0 18 1 ∷ put 0 25 1 ∷ put 0 45 1 ∷ put 0 47 1 ∷ []) pool) ≡ some NoRoom
 unfolding steps
 refused-room = refl
 

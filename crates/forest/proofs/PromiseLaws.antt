@@ -4,9 +4,10 @@ use mathlib.Core.List.{List}
 use Prim.Native.Nat.{ℕ, suc, _+_, _*_, _≤_}
 use native.Mathlib.Omega.{arith}
 use lib.ListN.{length, getD}
-use Rattle.forest.specs.declared.Answer.{Answer}
+use Rattle.forest.specs.declared.Reply.{Reply}
+use Rattle.forest.specs.declared.Reply.the-variants.{Refused}
+use Rattle.forest.specs.declared.Refusal.the-variants.{Unsound}
 use Rattle.forest.specs.declared.Cursor.{Cursor}
-use Rattle.forest.specs.Answers.{refusal}
 use Rattle.forest.specs.Pools.{Pool, Sound, encode, Call, call}
 use Rattle.forest.specs.Cursors.{Move, move}
 use Rattle.forest.specs.Promises.{Calls, Moves}
@@ -18,14 +19,14 @@ use Rattle.forest.proofs.UniqueLaws.{same-pool}
 
 module _ (m : ℕ) (lo : 1 ≤ m) where
   -- sound words stay sound
-  pub calls-sound : m ≤ 4 → (c : Call) (before after : List ℕ) (r : Answer) → Calls m c before after r → Sound m before → Sound m after
+  pub calls-sound : m ≤ 4 → (c : Call) (before after : List ℕ) (r : Reply) → Calls m c before after r → Sound m before → Sound m after
   calls-sound hi c before after r k s = record {
     pool = (call c (s .pool)) .pool;
     formed = call-formed m lo hi c (s .pool) (s .formed);
     same = k .sound-words (s .pool) (s .formed) (s .same);
   }
 
-  pub moves-sound : m ≤ 4 → (v : Move) (c : Cursor) (before after : List ℕ) (r : Answer) (d : Cursor) → Moves m v c before after r d → Sound m before → Sound m after
+  pub moves-sound : m ≤ 4 → (v : Move) (c : Cursor) (before after : List ℕ) (r : Reply) (d : Cursor) → Moves m v c before after r d → Sound m before → Sound m after
   moves-sound hi v c before after r d k s = record {
     pool = (move v c (s .pool)) .pool;
     formed = move-formed m lo hi v c (s .pool) (s .formed);
@@ -33,7 +34,7 @@ module _ (m : ℕ) (lo : 1 ≤ m) where
   }
 
   -- one pool is enough to keep the promise: there is no other
-  pub calls-by : (c : Call) (before after : List ℕ) (r : Answer) (s : Sound m before) → encode ((call c (s .pool)) .pool) ≡ after → (call c (s .pool)) .answer ≡ r → Calls m c before after r
+  pub calls-by : (c : Call) (before after : List ℕ) (r : Reply) (s : Sound m before) → encode ((call c (s .pool)) .pool) ≡ after → (call c (s .pool)) .answer ≡ r → Calls m c before after r
   calls-by c before after r s e a = record {
     sound-words = λ p w b. ap (λ (q : Pool). encode ((call c q) .pool)) (same-pool m lo p (s .pool) w (s .formed) (b ∙ sym (s .same))) ∙ e;
     sound-answer = λ p w b. ap (λ (q : Pool). (call c q) .answer) (same-pool m lo p (s .pool) w (s .formed) (b ∙ sym (s .same))) ∙ a;
@@ -41,7 +42,7 @@ module _ (m : ℕ) (lo : 1 ≤ m) where
     unsound-answer = λ n. absurd (n s);
   }
 
-  pub calls-unsound : (c : Call) (before : List ℕ) → (Sound m before → ⊥) → Calls m c before before (refusal 1)
+  pub calls-unsound : (c : Call) (before : List ℕ) → (Sound m before → ⊥) → Calls m c before before (Refused Unsound)
   calls-unsound c before n = record {
     sound-words = λ p w b. absurd (n (record { pool = p; formed = w; same = b }));
     sound-answer = λ p w b. absurd (n (record { pool = p; formed = w; same = b }));
@@ -50,7 +51,7 @@ module _ (m : ℕ) (lo : 1 ≤ m) where
   }
 
   -- the same of a cursor call
-  pub moves-by : (v : Move) (c : Cursor) (before after : List ℕ) (r : Answer) (d : Cursor) (s : Sound m before) →
+  pub moves-by : (v : Move) (c : Cursor) (before after : List ℕ) (r : Reply) (d : Cursor) (s : Sound m before) →
       encode ((move v c (s .pool)) .pool) ≡ after → (move v c (s .pool)) .answer ≡ r → (move v c (s .pool)) .cursor ≡ d → Moves m v c before after r d
   moves-by v c before after r d s e a f = record {
     sound-words = λ p w b. ap (λ (q : Pool). encode ((move v c q) .pool)) (same-pool m lo p (s .pool) w (s .formed) (b ∙ sym (s .same))) ∙ e;
@@ -61,7 +62,7 @@ module _ (m : ℕ) (lo : 1 ≤ m) where
     unsound-cursor = λ n. absurd (n s);
   }
 
-  pub moves-unsound : (v : Move) (c : Cursor) (before : List ℕ) → (Sound m before → ⊥) → Moves m v c before before (refusal 1) c
+  pub moves-unsound : (v : Move) (c : Cursor) (before : List ℕ) → (Sound m before → ⊥) → Moves m v c before before (Refused Unsound) c
   moves-unsound v c before n = record {
     sound-words = λ p w b. absurd (n (record { pool = p; formed = w; same = b }));
     sound-answer = λ p w b. absurd (n (record { pool = p; formed = w; same = b }));
@@ -72,7 +73,7 @@ module _ (m : ℕ) (lo : 1 ≤ m) where
   }
 
 -- two outcomes that keep the promise are the same, whether the words are sound or not
-module _ (m : ℕ) (c : Call) (before x y : List ℕ) (r s : Answer) (a : Calls m c before x r) (b : Calls m c before y s) where
+module _ (m : ℕ) (c : Call) (before x y : List ℕ) (r s : Reply) (a : Calls m c before x r) (b : Calls m c before y s) where
   pub one-outcome-sound : Sound m before → (x ≡ y) × (r ≡ s)
   one-outcome-sound o = (
     sym (a .sound-words (o .pool) (o .formed) (o .same)) ∙ b .sound-words (o .pool) (o .formed) (o .same),

@@ -7,18 +7,18 @@ use mathlib.Core.Option.{Option, none, some}
 use Prim.Native.Nat.{ℕ, zero, suc, _-_, _≤_, _<_}
 use native.Mathlib.Omega.{arith}
 use lib.ListN.{length, getD, getElem?}
-use lib.Dec.{eqb}
-use borrow.Author.Tests.{lt-ltb, eqb-true, eqb-false}
+use borrow.Author.Tests.{lt-ltb}
 use Rattle.forest.specs.Sizes.{mostLevels}
 use Rattle.forest.specs.Lists.{removeAt, count}
 use Rattle.forest.specs.Pairs.{Item, Rising, has, place}
 use Rattle.forest.specs.Rows.{Tree, Good}
 use Rattle.forest.specs.Trees.{leafItems, pairs, numbers}
 use Rattle.forest.specs.declared.Cursor.{Cursor}
-use Rattle.forest.specs.Answers.{nothing, found-with, held, valued}
+use Rattle.forest.specs.declared.Reply.the-variants.{Nothing, Value}
+use Rattle.forest.specs.Answers.{held, valued}
 use Rattle.forest.specs.Pools.{Pool, WellFormed, remove, call, refused, treeOf, nodeWords}
 use Rattle.forest.specs.Cursors.{Spot, off, on, leaves, Fits, pairAt, seek, position, spotAt, pathOf, cursorAt, pathIn, stands, Move, to-first, to-key, to-next, to-prev, to-settled, to-remove, removed, leftPool, leftSpot, Moved, blocked, moveFrom, move}
-use Rattle.forest.proofs.ListLaws.{is, isnt, test}
+use Rattle.forest.proofs.Reasons.{passes, stops, verdict, number}
 use Rattle.forest.proofs.PairLaws.{place-lt, place-key, place-delete}
 use Rattle.forest.proofs.TowerLaws.{tower-some}
 use Rattle.forest.proofs.TreeLaws.{none-empty, lands}
@@ -47,14 +47,14 @@ pub record Removes (p : Pool) (c : Cursor) (y : Item) (r : Moved) : Type 0 where
   pub same-pool : r .pool ≡ (call (remove (c .tree) (y .0)) p) .pool
   pub same-answer : r .answer ≡ (call (remove (c .tree) (y .0)) p) .answer
   -- the value held, and the list without that pair
-  pub value : r .answer ≡ found-with 0 (y .1)
+  pub value : r .answer ≡ Value (y .1)
   pub left : pairs (treeOf (r .pool) (c .tree)) ≡ removeAt (rank p c) (list p c)
   -- the cursor has the place of the pair that went: on the next pair, or off the end
   pub comes : spotIn (r .pool) (r .cursor) ≡ spotAt (leaves (treeOf (r .pool) (c .tree))) (rank p c)
   pub on-next : pairAt (leaves (treeOf (r .pool) (c .tree))) (spotAt (leaves (treeOf (r .pool) (c .tree))) (rank p c)) ≡ getElem? (list p c) (suc (rank p c))
 
 module _ (m : ℕ) (lo : 1 ≤ m) (hi : m ≤ 4) (p : Pool) (h : WellFormed m p) (c : Cursor) where
-  pub remove-goes : (y : Item) → blocked to-remove c p ≡ 0 → pairAt (row p c) (spotIn p c) ≡ some y → Removes p c y (move to-remove c p)
+  pub remove-goes : (y : Item) → blocked to-remove c p ≡ none → pairAt (row p c) (spotIn p c) ≡ some y → Removes p c y (move to-remove c p)
   unfolding moveFrom
   remove-goes y e q =
       let t = c .tree in
@@ -63,12 +63,12 @@ module _ (m : ℕ) (lo : 1 ≤ m) (hi : m ≤ 4) (p : Pool) (h : WellFormed m p)
       let s = spotIn p c in
       let n = pair-rank m (treeOf p (c .tree)) (spotIn p c) y lo g (fits-in m lo hi p h c to-remove e refl) q in
       let at = nth-has (list p c) (rank p c) y (n .1) (n .0) in
-      let free : refused (remove (c .tree) (y .0)) p ≡ 0 =
-      call-free (remove (c .tree) (y .0)) p (record { there = (barred to-remove c p) .there (omega (arith, e)); enough = omega arith }) in
+      let free : refused (remove (c .tree) (y .0)) p ≡ none =
+      call-free (remove (c .tree) (y .0)) p (record { there = (barred to-remove c p) .there (λ z. omega (arith, ap number (sym e ∙ z))); enough = omega arith }) in
       let sp : (move to-remove c p) .pool ≡ (call (remove (c .tree) (y .0)) p) .pool = rw (move-done to-remove c p e, q) in
       let go = goes m lo hi p h c to-remove e in
-      let v : (move to-remove c p) .answer ≡ found-with 0 (y .1) = go .answers ∙ ap valued q in
-      let w : (call (remove (c .tree) (y .0)) p) .answer ≡ found-with 0 (y .1) =
+      let v : (move to-remove c p) .answer ≡ Value (y .1) = go .answers ∙ ap valued q in
+      let w : (call (remove (c .tree) (y .0)) p) .answer ≡ Value (y .1) =
       call-answer m lo (remove (c .tree) (y .0)) p h free ∙ ap held (nth-lookup (list p c) (rank p c) y (n .1) (n .0)) in
       let l : pairs (treeOf ((move to-remove c p) .pool) (c .tree)) ≡ removeAt (rank p c) (list p c) =
       ap (λ (z : Pool). pairs (treeOf z (c .tree))) sp ∙ call-pairs m lo (remove (c .tree) (y .0)) p h free ∙
@@ -97,8 +97,8 @@ module _ (m : ℕ) (lo : 1 ≤ m) (hi : m ≤ 4) (p : Pool) (h : WellFormed m p)
       ap (cursorAt (c .tree)) (runs-path (treeOf p (c .tree)) (pathIn c) (q .1)) ∙ cursor-back c a b (q .0)
 
   -- on no pair: not found, and neither pool nor cursor changes
-  pub remove-none : length (c .nodes) ≡ mostLevels → length (c .places) ≡ mostLevels → blocked to-remove c p ≡ 0 → pairAt (row p c) (spotIn p c) ≡ none →
-      move to-remove c p ≡ record { answer = nothing; cursor = c; pool = p }
+  pub remove-none : length (c .nodes) ≡ mostLevels → length (c .places) ≡ mostLevels → blocked to-remove c p ≡ none → pairAt (row p c) (spotIn p c) ≡ none →
+      move to-remove c p ≡ record { answer = Nothing; cursor = c; pool = p }
   unfolding moveFrom
   remove-none a b e q = rw (move-done to-remove c p e, q, stays a b (blocked-stands to-remove c p e refl))
 
@@ -120,7 +120,7 @@ module _ (m : ℕ) (lo : 1 ≤ m) (hi : m ≤ 4) (p : Pool) (h : WellFormed m p)
       ((move to-remove ((move (to-key k) c p) .cursor) p) .pool ≡ (call (remove (c .tree) k) p) .pool) ×
       ((move to-remove ((move (to-key k) c p) .cursor) p) .answer ≡ (call (remove (c .tree) k) p) .answer)
   seek-removes c k t f =
-      let e : blocked (to-key k) c p ≡ 0 = move-free (to-key k) c p t (λ r. absurd (true≢false (sym r))) in
+      let e : blocked (to-key k) c p ≡ none = move-free (to-key k) c p t (λ r. absurd (true≢false (sym r))) in
       let d = (move (to-key k) c p) .cursor in
       let same : (move (to-key k) c p) .pool ≡ p = move-reads m lo hi (to-key k) c p (λ z. let y : _≡_ {A = ℕ} 0 1 = cc in omega arith) in
       let a = again m lo hi (to-key k) to-remove c p h e same in
@@ -135,9 +135,9 @@ module _ (m : ℕ) (lo : 1 ≤ m) (hi : m ≤ 4) (p : Pool) (h : WellFormed m p)
 -- other trees stay as they are, whatever the move
 pub move-other-trees : (v : Move) (c : Cursor) (p : Pool) (s : ℕ) → s ≢ c .tree → treeOf ((move v c p) .pool) s ≡ treeOf p s
 unfolding moveFrom
-move-other-trees v c p s d = elim (test (eqb (blocked v c p) 0)) [
-  | is e ↦ rw (move-done v c p (eqb-true _ _ e)) (left v (spotIn p c))
-  | isnt e ↦ rw (move-refused v c p (eqb-false _ _ e))
+move-other-trees v c p s d = elim (verdict (blocked v c p)) [
+  | passes e ↦ rw (move-done v c p e) (left v (spotIn p c))
+  | stops x e ↦ rw (move-refused v c p x e)
 ]
   where
     gone : (o : Option Item) → treeOf (removed (c .tree) o p) s ≡ treeOf p s
@@ -156,9 +156,9 @@ move-other-trees v c p s d = elim (test (eqb (blocked v c p) 0)) [
 pub move-other-nodes : (m : ℕ) → 1 ≤ m → m ≤ 4 → (v : Move) (c : Cursor) (p : Pool) (s n : ℕ) → WellFormed m p → s ≢ c .tree → 1 ≤ count n (numbers (treeOf p s)) →
     nodeWords (((move v c p) .pool) .trees) n ≡ nodeWords (p .trees) n
 unfolding moveFrom
-move-other-nodes m lo hi v c p s n h d k = elim (test (eqb (blocked v c p) 0)) [
-  | is e ↦ rw (move-done v c p (eqb-true _ _ e)) (left v (spotIn p c))
-  | isnt e ↦ rw (move-refused v c p (eqb-false _ _ e))
+move-other-nodes m lo hi v c p s n h d k = elim (verdict (blocked v c p)) [
+  | passes e ↦ rw (move-done v c p e) (left v (spotIn p c))
+  | stops x e ↦ rw (move-refused v c p x e)
 ]
   where
     gone : (o : Option Item) → nodeWords ((removed (c .tree) o p) .trees) n ≡ nodeWords (p .trees) n

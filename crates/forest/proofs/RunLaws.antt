@@ -1,18 +1,17 @@
 -- PROOFS. Demand 3: each tree of a pool does what it would do alone
 use mathlib.Core.Path.{_≡_, refl, sym, ap, _∙_}
 use mathlib.Core.List.{List, [], _∷_}
-use mathlib.Core.Bool.{true}
+use mathlib.Core.Bool.{true, false, true≢false}
 use mathlib.Core.Option.{Option, none, some}
 use Prim.Native.Nat.{ℕ, zero, suc, _-_, _≤_}
 use native.Mathlib.Omega.{arith}
 use lib.ListN.{length, getD, set, replicate}
-use lib.Dec.{eqb}
-use borrow.Author.Tests.{eqb-true, eqb-false, eq-eqb}
 use Rattle.forest.specs.Rows.{Tree}
 use Rattle.forest.specs.Trees.{numbers, need, getTree}
-use Rattle.forest.specs.Answers.{held}
+use Rattle.forest.specs.Answers.{held, kept}
 use Rattle.forest.specs.Pools.{Pool, used, WellFormed, treeOf, Call, put, remove, get, target, after, takes, says, refused, done, call, calls, fresh, run, answers, own, shape, AllDone, Alone}
-use Rattle.forest.proofs.ListLaws.{is, isnt, test, total-length}
+use Rattle.forest.proofs.ListLaws.{total-length}
+use Rattle.forest.proofs.Reasons.{passes, stops, verdict}
 use Rattle.forest.proofs.PoolLaws.{Free, free-call, call-free, call-done, call-refused, other-trees, same-trees, same-count, own-tree, call-formed, used-set, used-at}
 use Rattle.forest.proofs.CountLaws.{nodes-all, fresh-formed}
 use Rattle.forest.specs.Runs.{AllKept}
@@ -42,20 +41,29 @@ says-shape c x y e = says-by c x ∙ ap (says c) e ∙ sym (says-by c y)
 pub after-shape : (c : Call) (f g : List ℕ) (x y : Tree) → shape x ≡ shape y → shape (after c f x) ≡ shape (after c g y)
 after-shape c f g x y e = after-by c f x ∙ ap (after c []) e ∙ sym (after-by c g y)
 
-held-done : (o : Option ℕ) → (held o) .number ≡ 0
+held-done : (o : Option ℕ) → kept (held o) ≡ true
 held-done none = refl
 held-done (some v) = refl
 
-says-done : (c : Call) (x : Tree) → (says c x) .number ≡ 0
+says-done : (c : Call) (x : Tree) → kept (says c x) ≡ true
 says-done (put t k v) x = held-done (getTree k x)
 says-done (remove t k) x = held-done (getTree k x)
 says-done (get t k) x = held-done (getTree k x)
 
--- the number of an answer is that of the refusal, or 0
-pub answer-number : (c : Call) (p : Pool) → (call c p) .answer .number ≡ refused c p
-answer-number c p = elim (test (eqb (refused c p) 0)) [
-  | is e ↦ rw (call-done c p (eqb-true _ _ e)) (says-done c (treeOf p (target c)) ∙ sym (eqb-true _ _ e))
-  | isnt e ↦ rw (call-refused c p (eqb-false _ _ e))
+-- a call is struck out exactly where it is refused
+pub kept-free : (c : Call) (p : Pool) → refused c p ≡ none → kept ((call c p) .answer) ≡ true
+kept-free c p e = rw (call-done c p e) (says-done c (treeOf p (target c)))
+
+pub free-kept : (c : Call) (p : Pool) → kept ((call c p) .answer) ≡ true → refused c p ≡ none
+free-kept c p k = elim (verdict (refused c p)) [
+  | passes e ↦ e
+  | stops x e ↦ absurd (true≢false (sym k ∙ ap (λ d. kept (d .answer)) (call-refused c p x e)))
+]
+
+struck-same : (c : Call) (p : Pool) → kept ((call c p) .answer) ≡ false → (call c p) .pool ≡ p
+struck-same c p k = elim (verdict (refused c p)) [
+  | passes e ↦ absurd (true≢false (sym (kept-free c p e) ∙ k))
+  | stops x e ↦ ap (λ d. d .pool) (call-refused c p x e)
 ]
 
 -- any calls keep a pool well formed
@@ -106,19 +114,19 @@ module _ (m : ℕ) (lo : 1 ≤ m) (hi : m ≤ 4) where
         total-length (numbers (treeOf q (target c))),
       ))
 
-  not-refused : (c : Call) (p : Pool) → eqb (refused c p) 0 ≡ true → Free c p
-  not-refused c p e = free-call c p (eqb-true _ _ e)
+  not-refused : (c : Call) (p : Pool) → kept ((call c p) .answer) ≡ true → Free c p
+  not-refused c p e = free-call c p (free-kept c p e)
 
   -- get, put and remove are such a kind of call
   pub calls-by-shape : ByShape calls (λ p t. shape (treeOf p t)) Room
   calls-by-shape = record {
     says = says;
     makes = λ c s. after c [] s;
-    answer-by = λ c p e. rw (call-done c p (eqb-true _ _ e)) (says-by c (treeOf p (target c)));
-    shape-by = λ c p e. rw (call-done c p (eqb-true _ _ e), own-tree c p (not-refused c p e)) (after-by c (p .free) (treeOf p (target c)));
+    answer-by = λ c p e. rw (call-done c p (free-kept c p e)) (says-by c (treeOf p (target c)));
+    shape-by = λ c p e. rw (call-done c p (free-kept c p e), own-tree c p (not-refused c p e)) (after-by c (p .free) (treeOf p (target c)));
     others = λ c p t d. ap shape (other-trees c p t d);
-    struck = λ c p t e. ap (λ (q : Pool). shape (treeOf q t)) (ap (λ d. d .pool) (call-refused c p (eqb-false _ _ e)));
-    keeps = λ c p q w a e. eq-eqb (refused c q) 0 (call-free c q (free-too c p q w a (not-refused c p e)));
+    struck = λ c p t e. ap (λ (q : Pool). shape (treeOf q t)) (struck-same c p e);
+    keeps = λ c p q w a e. kept-free c q (call-free c q (free-too c p q w a (not-refused c p e)));
     room-own = λ c p q w a e.
         let f : Free c q = free-too c p q w a (not-refused c p e) in
         let z : (call c q) .pool ≡ done c q = ap (λ d. d .pool) (call-done c q (call-free c q f)) in
@@ -140,7 +148,7 @@ module _ (m : ℕ) (lo : 1 ≤ m) (hi : m ≤ 4) where
 
   kept-done : (cs : List Call) (p : Pool) → AllKept calls cs p → AllDone (answers cs p)
   kept-done [] p a = tt
-  kept-done (c ∷ cs) p a = (answer-number c p ∙ eqb-true _ _ (a .0), kept-done cs ((call c p) .pool) (a .1))
+  kept-done (c ∷ cs) p a = (a .0, kept-done cs ((call c p) .pool) (a .1))
 
   -- from any two such pools
   pub alone-calls : (t : ℕ) (cs : List Call) (p q : Pool) → Room t p q → shape (treeOf p t) ≡ shape (treeOf q t) → Alone t cs p q

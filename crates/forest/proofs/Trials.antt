@@ -11,8 +11,10 @@ use Rattle.forest.specs.Pairs.{Item}
 use Rattle.forest.specs.Rows.{Row, Tree, keeps, putNode, alone, heal}
 use Rattle.forest.specs.Trees.{putTree, need, removeTree, freed, getTree, putLeaf, dropLeaf, dropAbove}
 use Rattle.forest.specs.declared.Answer.{Answer}
+use Rattle.forest.specs.declared.Reply.{Reply}
 use Rattle.forest.specs.declared.Cursor.{Cursor}
-use Rattle.forest.specs.Pools.{Pool, Call, put, remove, get, call, refused, done, encode, fresh, root, run, answers, formatted}
+use Rattle.forest.specs.Answers.{answerOf}
+use Rattle.forest.specs.Pools.{Pool, Call, put, remove, get, call, refused, done, encode, fresh, root, run, answers, formatted, formatAnswer}
 use Rattle.forest.specs.Cursors.{Moved, pathIn, cursorAt, clean, to-key, to-next, to-prev, to-remove, move, moveFrom, blocked, leaves}
 
 -- what is seen, and what the document says, as lists of numbers
@@ -48,8 +50,12 @@ tree p = getD (p .trees) 0 []
 abbrev view : Pool → List (List ℕ)
 view p = leafKeys (leaves (tree p)) ++ (separators (above (tree p)) ++ (reverse (p .free) ∷ []))
 
-abbrev pub answer : Answer → List ℕ
-answer a = a .number ∷ once (a .found) ∷ a .key ∷ a .value ∷ []
+abbrev fields : Answer → List ℕ
+fields a = a .number ∷ once (a .found) ∷ a .key ∷ a .value ∷ []
+
+-- an answer in document 01's numbers: number, found, key, value
+abbrev pub answer : Reply → List ℕ
+answer r = fields (answerOf r)
 
 -- nodes and places, root first
 abbrev pub flat : List (ℕ × ℕ) → List ℕ
@@ -111,7 +117,7 @@ lists-same (x ∷ xs) (y ∷ ys) e = both (sameList x y) x y xs ys (sameLists xs
 
 -- the definitions that the trials compute with
 unfoldable pub steps : Unit {0}
-unfolding call refused done putTree need removeTree freed getTree putLeaf dropLeaf dropAbove keeps putNode alone heal encode formatted move moveFrom blocked clean
+unfolding call refused done putTree need removeTree freed getTree putLeaf dropLeaf dropAbove keeps putNode alone heal encode formatted formatAnswer move moveFrom blocked clean
 steps = tt
 
 -- the two whole pools
@@ -271,11 +277,15 @@ end-keys-agrees : agree end-keys ≡ true
 unfolding steps end-keys
 end-keys-agrees = refl
 
+-- formatting len words
+abbrev asked : ℕ → ℕ → ℕ → Reply
+asked T N len = formatAnswer T N (replicate len 0)
+
 -- T = 0, T = 33, N = 513, another length: 5
 pub formats : Trial
 formats = record {
-  seen = (formatted 0 2 37 ∷ formatted 33 2 70 ∷ formatted 1 513 8725 ∷ formatted 1 2 39 ∷ formatted 1 2 38 ∷ formatted 32 512 8739 ∷ []) ∷ [];
-  said = (5 ∷ 5 ∷ 5 ∷ 5 ∷ 0 ∷ 0 ∷ []) ∷ [];
+  seen = map answer (asked 0 2 37 ∷ asked 33 2 70 ∷ asked 1 513 8725 ∷ asked 1 2 39 ∷ asked 1 2 38 ∷ asked 32 512 8739 ∷ []);
+  said = map (λ (n : ℕ). n ∷ 0 ∷ 0 ∷ 0 ∷ []) (5 ∷ 5 ∷ 5 ∷ 5 ∷ 0 ∷ 0 ∷ []);
 }
 
 formats-agrees : agree formats ≡ true

@@ -11,9 +11,12 @@ use Rattle.forest.specs.Lists.{sum, parent, offset, pad}
 use Rattle.forest.specs.Pairs.{Item, place}
 use Rattle.forest.specs.Rows.{Row, Tree, size, sizes, nums, itemsAt}
 use Rattle.forest.specs.Trees.{leafOf, leafItems, getTree}
-use Rattle.forest.specs.declared.Answer.{Answer}
+use Rattle.forest.specs.declared.Refusal.{Refusal}
+use Rattle.forest.specs.declared.Refusal.the-variants.{NoPlace}
+use Rattle.forest.specs.declared.Reply.{Reply}
+use Rattle.forest.specs.declared.Reply.the-variants.{Nothing, Refused}
 use Rattle.forest.specs.declared.Cursor.{Cursor}
-use Rattle.forest.specs.Answers.{nothing, refusal, held, told, valued}
+use Rattle.forest.specs.Answers.{held, told, valued}
 use Rattle.forest.specs.Pools.{Pool, remove, call, treeOf, gate}
 
 -- at entry e of the j-th leaf (e may be one past the last), or off the end
@@ -191,12 +194,12 @@ pub data Move : Type 0 where
   to-remove : Move
 
 -- what a move answers from a spot
-abbrev pub tells : Move → Tree → Spot → Answer
+abbrev pub tells : Move → Tree → Spot → Reply
 tells to-first t s = told (pairAt (leaves t) (first (leaves t)))
 tells (to-key k) t s = held (getTree k t)
 tells to-next t s = told (pairAt (leaves t) (next (leaves t) s))
 tells to-prev t s = told (prevPair (leaves t) s)
-tells to-settled t s = nothing
+tells to-settled t s = Nothing
 tells to-remove t s = valued (pairAt (leaves t) s)
 
 -- first and seek read only the tree number of the cursor
@@ -238,13 +241,13 @@ leftSpot to-remove L L′ s = removedSpot (pairAt L s) L L′ s
 
 -- what comes of a move
 pub record Moved : Type 0 where
-  pub answer : Answer
+  pub answer : Reply
   pub cursor : Cursor
   pub pool : Pool
 
--- the number of a refusal, 0 if there is none: 3 where the cursor is read and does not stand in its tree
-unfoldable pub blocked : Move → Cursor → Pool → ℕ
-blocked v c p = gate p (c .tree) (cond (reads v) (cond (stands (treeOf p (c .tree)) c) 0 3) 0)
+-- why a move is refused, if it is: the cursor is read and does not stand in its tree
+unfoldable pub blocked : Move → Cursor → Pool → Option Refusal
+blocked v c p = gate p (c .tree) (cond (reads v) (cond (stands (treeOf p (c .tree)) c) none (some NoPlace)) none)
 
 -- a move that is not refused, done from a spot
 unfoldable pub moveFrom : Move → ℕ → Spot → Pool → Moved
@@ -254,9 +257,11 @@ moveFrom v t s p = record {
   pool = leftPool v t s p;
 }
 
--- a move: where it is refused, neither pool nor cursor changes
+-- what comes of it: where there is a reason against it neither pool nor cursor changes, else it is done
+abbrev pub unlessMoved : Option Refusal → Cursor → Pool → Moved → Moved
+unlessMoved none c p d = d
+unlessMoved (some x) c p d = record { answer = Refused x; cursor = c; pool = p }
+
+-- a move
 unfoldable pub move : Move → Cursor → Pool → Moved
-move v c p =
-    cond (eqb (blocked v c p) 0)
-    (moveFrom v (c .tree) (spotOf (treeOf p (c .tree)) (pathIn c)) p)
-    (record { answer = refusal (blocked v c p); cursor = c; pool = p })
+move v c p = unlessMoved (blocked v c p) c p (moveFrom v (c .tree) (spotOf (treeOf p (c .tree)) (pathIn c)) p)

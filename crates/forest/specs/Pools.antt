@@ -1,7 +1,8 @@
 -- DEFINITIONS. A pool of trees, when it is well formed, its words, and the calls
 use mathlib.Core.Path.{_≡_}
 use mathlib.Core.List.{List, [], _∷_, _++_, map, reverse}
-use mathlib.Core.Bool.{cond, _&&_}
+use mathlib.Core.Bool.{Bool, true, cond, _&&_}
+use mathlib.Core.Option.{Option, none, some}
 use Prim.Native.Nat.{ℕ, zero, suc, _+_, _-_, _*_, _≤_}
 use lib.ListN.{length, drop, getD, set, replicate}
 use lib.Dec.{ltb, leb, eqb}
@@ -9,8 +10,11 @@ use Rattle.forest.specs.Sizes.{mostTrees, mostNodes, leafCap, leafTag, i
 use Rattle.forest.specs.Lists.{once, count, pad}
 use Rattle.forest.specs.Pairs.{Item, insert, delete}
 use Rattle.forest.specs.Rows.{Node, Row, Tree, node, nums, Good}
-use Rattle.forest.specs.declared.Answer.{Answer}
-use Rattle.forest.specs.Answers.{refusal, held}
+use Rattle.forest.specs.declared.Refusal.{Refusal}
+use Rattle.forest.specs.declared.Refusal.the-variants.{NoTree, NoRoom, NoFormat}
+use Rattle.forest.specs.declared.Reply.{Reply}
+use Rattle.forest.specs.declared.Reply.the-variants.{Nothing, Refused}
+use Rattle.forest.specs.Answers.{held, kept}
 use Rattle.forest.specs.Runs.{Kind, finally, replies, ownCalls, ownReplies}
 use Rattle.forest.specs.Trees.{numbers, putTree, need, removeTree, freed, getTree}
 
@@ -114,7 +118,7 @@ fresh T N = record { trees = replicate T []; count = N; free = fresh-stack 1 N }
 
 -- what comes of a call: its answer, and the pool afterwards
 pub record Done : Type 0 where
-  pub answer : Answer
+  pub answer : Reply
   pub pool : Pool
 
 -- tree t, empty where there is none
@@ -161,18 +165,18 @@ frees (remove t k) x = freed leafCap k x
 frees (get t k) x = []
 
 -- what it answers: a put the earlier value, a remove and a get the value held
-abbrev pub says : Call → Tree → Answer
+abbrev pub says : Call → Tree → Reply
 says (put t k v) x = held (getTree k x)
 says (remove t k) x = held (getTree k x)
 says (get t k) x = held (getTree k x)
 
--- the first refusals of every call on a sound pool: 2 where the tree number is T or above; then comes what the call itself is refused for
-abbrev pub gate : Pool → ℕ → ℕ → ℕ
-gate p t rest = cond (leb (length (p .trees)) t) 2 rest
+-- the first reasons against every call on a sound pool: the tree number is T or above; then comes what the call itself is refused for
+abbrev pub gate : Pool → ℕ → Option Refusal → Option Refusal
+gate p t rest = cond (leb (length (p .trees)) t) (some NoTree) rest
 
--- the number of a refusal, 0 if there is none: 4 where the call takes more nodes than are free
-unfoldable pub refused : Call → Pool → ℕ
-refused c p = gate p (target c) (cond (ltb (length (p .free)) (takes c (treeOf p (target c)))) 4 0)
+-- why a call is refused, if it is: it takes more nodes than are free
+unfoldable pub refused : Call → Pool → Option Refusal
+refused c p = gate p (target c) (cond (ltb (length (p .free)) (takes c (treeOf p (target c)))) (some NoRoom) none)
 
 -- a call that is not refused, done
 unfoldable pub done : Call → Pool → Pool
@@ -180,37 +184,39 @@ done c p =
     withTree p (target c) (after c (p .free) (treeOf p (target c)))
     (pushAll (frees c (treeOf p (target c))) (drop (takes c (treeOf p (target c))) (p .free)))
 
--- a call: where it is refused, nothing changes
+-- what comes of it: where there is a reason against it nothing changes, else it is done
+abbrev pub unless : Option Refusal → Pool → Done → Done
+unless none p d = d
+unless (some x) p d = record { answer = Refused x; pool = p }
+
+-- a call
 unfoldable pub call : Call → Pool → Done
-call c p =
-    cond (eqb (refused c p) 0)
-    (record { answer = says c (treeOf p (target c)); pool = done c p })
-    (record { answer = refusal (refused c p); pool = p })
+call c p = unless (refused c p) p (record { answer = says c (treeOf p (target c)); pool = done c p })
 
--- formatting len words with T trees and N nodes: 5, or 0 where it is done and the words are those of a fresh pool
-unfoldable pub formatted : ℕ → ℕ → ℕ → ℕ
-formatted T N len = cond (leb 1 T && (leb T mostTrees && (leb N mostNodes && eqb len (T + 17 * N + 3)))) 0 5
+-- may len words be formatted with T trees and N nodes
+unfoldable pub formatted : ℕ → ℕ → ℕ → Bool
+formatted T N len = leb 1 T && (leb T mostTrees && (leb N mostNodes && eqb len (T + 17 * N + 3)))
 
--- the words after formatting
+-- the words after formatting: those of a fresh pool, or as they were
 unfoldable pub formatWords : ℕ → ℕ → List ℕ → List ℕ
-formatWords T N ws = cond (eqb (formatted T N (length ws)) 0) (encode (fresh T N)) ws
+formatWords T N ws = cond (formatted T N (length ws)) (encode (fresh T N)) ws
 
--- and the answer: number 0 with nothing found, or 5
-unfoldable pub formatAnswer : ℕ → ℕ → List ℕ → Answer
-formatAnswer T N ws = refusal (formatted T N (length ws))
+-- and the answer
+unfoldable pub formatAnswer : ℕ → ℕ → List ℕ → Reply
+formatAnswer T N ws = cond (formatted T N (length ws)) Nothing (Refused NoFormat)
 
 -- Calls in a row
 
 -- get, put and remove as a kind of call; every refusal is struck out
-abbrev pub calls : Kind Call Pool Answer
-calls = record { answer = λ c p. (call c p) .answer; next = λ c p. (call c p) .pool; target = target; kept = λ c p. eqb (refused c p) 0 }
+abbrev pub calls : Kind Call Pool Reply
+calls = record { answer = λ c p. (call c p) .answer; next = λ c p. (call c p) .pool; target = target; kept = λ c p. kept ((call c p) .answer) }
 
 -- the pool after some calls
 abbrev pub run : List Call → Pool → Pool
 run cs p = finally calls cs p
 
 -- and their answers
-abbrev pub answers : List Call → Pool → List Answer
+abbrev pub answers : List Call → Pool → List Reply
 answers cs p = replies calls cs p
 
 -- the calls of tree t, those that are refused struck out
@@ -218,7 +224,7 @@ abbrev pub own : ℕ → List Call → Pool → List Call
 own t cs p = ownCalls calls t cs p
 
 -- and the answers to these
-abbrev pub ownAnswers : ℕ → List Call → Pool → List Answer
+abbrev pub ownAnswers : ℕ → List Call → Pool → List Reply
 ownAnswers t cs p = ownReplies calls t cs p
 
 -- The meaning of a call on the list of pairs
@@ -249,9 +255,9 @@ shape (L ∷ Rs) = map (blank (λ v. v)) L ∷ map (map (blank (λ v. 0))) Rs
 -- Demand 3, for tree t and the calls cs
 
 -- no answer is a refusal
-abbrev pub AllDone : List Answer → Type 0
+abbrev pub AllDone : List Reply → Type 0
 AllDone [] = Unit {0}
-AllDone (a ∷ rest) = (a .number ≡ 0) × AllDone rest
+AllDone (a ∷ rest) = (kept a ≡ true) × AllDone rest
 
 -- the calls of t that pool p did not refuse, made alone in pool q: the same answers, no refusal, the same shape
 pub record Alone (t : ℕ) (cs : List Call) (p q : Pool) : Type 0 where
