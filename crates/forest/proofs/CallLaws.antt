@@ -1,7 +1,7 @@
 -- PROOFS. A call on a pool: exactly when it is refused, when it changes nothing, what it takes and gives back, and what it leaves alone
 use mathlib.Core.Path.{_≡_, refl, sym, ap, _∙_}
 use mathlib.Core.List.{List, [], _∷_}
-use mathlib.Core.Bool.{false}
+use mathlib.Core.Bool.{true, false, true≢false}
 use mathlib.Core.Logic.{_≢_}
 use mathlib.Core.Option.{Option, none, some}
 use Prim.Native.Nat.{ℕ, zero, suc, _+_, _-_, _≤_, _<_}
@@ -16,7 +16,8 @@ use Rattle.forest.specs.Rows.{Tree, Good}
 use Rattle.forest.specs.Trees.{pairs, numbers, leafItems, need, removeTree, freed, getTree}
 use Rattle.forest.specs.declared.Refusal.{Refusal}
 use Rattle.forest.specs.declared.Refusal.the-variants.{NoTree, NoRoom}
-use Rattle.forest.specs.declared.Reply.the-variants.{Nothing}
+use Rattle.forest.specs.declared.Reply.the-variants.{Nothing, Refused}
+use Rattle.forest.specs.Answers.{held, kept}
 use Rattle.forest.specs.Pools.{Pool, used, WellFormed, nodeWords, encode, root, treeOf, pushAll, Call, put, remove, get, target, after, takes, frees, refused, done, call}
 use Rattle.forest.proofs.ListLaws.{is, isnt, test, total-length}
 use Rattle.forest.proofs.Reasons.{passes, stops, verdict, number}
@@ -24,6 +25,11 @@ use Rattle.forest.proofs.PairLaws.{lookup-has}
 use Rattle.forest.proofs.TreeLaws.{lands}
 use Rattle.forest.proofs.PoolLaws.{Free, free-call, call-free, call-done, call-refused, refused-two, refused-four, good-at, used-set, total-push, weight-after, other-trees, same-trees, own-tree, call-formed}
 use Rattle.forest.proofs.WordLaws.{count-append, count-tree, used-once, other-words, root-word}
+
+-- what is found, or not, is no refusal
+pub held-kept : (o : Option ℕ) → kept (held o) ≡ true
+held-kept none = refl
+held-kept (some v) = refl
 
 -- Refusals: the table, read backwards
 
@@ -63,6 +69,26 @@ judged c p = elim (test (leb (length (p .trees)) (target c))) [
 pub four-exactly : (t k v : ℕ) (p : Pool) → t < length (p .trees) →
     (refused (put t k v) p ≡ some NoRoom → length (p .free) < need 7 k (treeOf p t)) × (length (p .free) < need 7 k (treeOf p t) → refused (put t k v) p ≡ some NoRoom)
 four-exactly t k v p h = ((judged (put t k v) p) .four-above, refused-four (put t k v) p h)
+
+-- and the answer says so
+pub room-exactly : (t k v : ℕ) (p : Pool) → t < length (p .trees) →
+    ((call (put t k v) p) .answer ≡ Refused NoRoom → length (p .free) < need 7 k (treeOf p t)) ×
+    (length (p .free) < need 7 k (treeOf p t) → (call (put t k v) p) .answer ≡ Refused NoRoom)
+room-exactly t k v p h = (
+  λ e. (four-exactly t k v p h) .0 (told e),
+  λ g. ap (λ d. d .answer) (call-refused (put t k v) p NoRoom ((four-exactly t k v p h) .1 g)),
+)
+  where
+    told : (call (put t k v) p) .answer ≡ Refused NoRoom → refused (put t k v) p ≡ some NoRoom
+    told e = elim (verdict (refused (put t k v) p)) [
+      | passes f ↦
+          let d : held (getTree k (treeOf p t)) ≡ Refused NoRoom = ap (λ d. d .answer) (sym (call-done (put t k v) p f)) ∙ e in
+          absurd (true≢false (sym (held-kept (getTree k (treeOf p t))) ∙ ap kept d))
+      | stops x f ↦
+          let d : Refused x ≡ Refused NoRoom = ap (λ d. d .answer) (sym (call-refused (put t k v) p x f)) ∙ e in
+          let y : x ≡ NoRoom = cc in
+          f ∙ ap some y
+    ]
 
 -- 2 exactly when the tree number is T or above
 pub two-exactly : (c : Call) (p : Pool) → (refused c p ≡ some NoTree → length (p .trees) ≤ target c) × (length (p .trees) ≤ target c → refused c p ≡ some NoTree)

@@ -2,7 +2,7 @@
 use mathlib.Core.Path.{_≡_, refl, sym, ap, _∙_}
 use mathlib.Core.List.{List, [], _∷_}
 use mathlib.Core.Bool.{true, false, true≢false}
-use mathlib.Core.Option.{Option, none, some}
+use mathlib.Core.Option.{none}
 use Prim.Native.Nat.{ℕ, zero, suc, _-_, _≤_}
 use native.Mathlib.Omega.{arith}
 use lib.ListN.{length, getD, set, replicate}
@@ -14,6 +14,7 @@ use Rattle.forest.proofs.ListLaws.{total-length}
 use Rattle.forest.proofs.Reasons.{passes, stops, verdict}
 use Rattle.forest.proofs.PoolLaws.{Free, free-call, call-free, call-done, call-refused, other-trees, same-trees, same-count, own-tree, call-formed, used-set, used-at}
 use Rattle.forest.proofs.CountLaws.{nodes-all, fresh-formed}
+use Rattle.forest.proofs.CallLaws.{held-kept}
 use Rattle.forest.specs.Runs.{AllKept}
 use Rattle.forest.proofs.KindLaws.{ByShape, alone}
 use Rattle.forest.proofs.ShapeLaws.{shape-put, shape-need, shape-get, shape-remove, shape-nodes}
@@ -41,14 +42,10 @@ says-shape c x y e = says-by c x ∙ ap (says c) e ∙ sym (says-by c y)
 pub after-shape : (c : Call) (f g : List ℕ) (x y : Tree) → shape x ≡ shape y → shape (after c f x) ≡ shape (after c g y)
 after-shape c f g x y e = after-by c f x ∙ ap (after c []) e ∙ sym (after-by c g y)
 
-held-done : (o : Option ℕ) → kept (held o) ≡ true
-held-done none = refl
-held-done (some v) = refl
-
 says-done : (c : Call) (x : Tree) → kept (says c x) ≡ true
-says-done (put t k v) x = held-done (getTree k x)
-says-done (remove t k) x = held-done (getTree k x)
-says-done (get t k) x = held-done (getTree k x)
+says-done (put t k v) x = held-kept (getTree k x)
+says-done (remove t k) x = held-kept (getTree k x)
+says-done (get t k) x = held-kept (getTree k x)
 
 -- a call is struck out exactly where it is refused
 pub kept-free : (c : Call) (p : Pool) → refused c p ≡ none → kept ((call c p) .answer) ≡ true

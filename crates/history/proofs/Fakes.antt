@@ -1,22 +1,25 @@
 -- PROOFS. The fakes of document 01: no program that keeps the promises does what one of them does
 use mathlib.Core.Path.{_≡_, refl, sym, ap, _∙_}
 use mathlib.Core.List.{List, [], _∷_}
-use mathlib.Core.Bool.{Bool, true}
+use mathlib.Core.Bool.{Bool, true, false, true≢false}
 use Prim.Native.Nat.{ℕ, _+_, _*_, _≤_, _<_}
 use native.Mathlib.Omega.{arith}
 use lib.ListN.{length, getD}
 use lib.Seq.{getD-drop}
 use Rattle.forest.specs.Sizes.{leafLeast}
-use Rattle.forest.specs.declared.Answer.{Answer}
+use Rattle.forest.specs.declared.Reply.{Reply}
+use Rattle.forest.specs.declared.Reply.the-variants.{Refused}
+use Rattle.forest.specs.declared.Refusal.the-variants.{NoRoom}
 use Rattle.forest.specs.declared.Cursor.{Cursor}
-use Rattle.forest.specs.Pools.{Pool, WellFormed, encode, fresh, Call, put, get, call, refused, treeOf, used, run}
+use Rattle.forest.specs.Answers.{kept, answerOf}
+use Rattle.forest.specs.Pools.{Pool, WellFormed, encode, fresh, Call, put, get, call, treeOf, used, run}
 use Rattle.forest.specs.Trees.{need}
 use Rattle.forest.specs.Cursors.{Move, to-first, to-remove, cursorAt}
 use Rattle.forest.specs.Promises.{Calls, Moves}
 use Rattle.forest.proofs.WordLaws.{free-part}
 use Rattle.forest.proofs.CountLaws.{fresh-formed, nodes-all}
-use Rattle.forest.proofs.CallLaws.{four-exactly}
-use Rattle.forest.proofs.RunLaws.{answer-number, run-formed}
+use Rattle.forest.proofs.CallLaws.{room-exactly}
+use Rattle.forest.proofs.RunLaws.{run-formed}
 use Rattle.forest.proofs.Premises.{unsound}
 use Rattle.forest.proofs.Trials.{steps}
 use Rattle.sound.specs.Exact.{Exact}
@@ -24,7 +27,7 @@ use Rattle.sound.specs.Exact.{Exact}
 -- what a program makes of a call: the words afterwards and the answer
 pub record Outcome : Type 0 where
   pub words : List ℕ
-  pub answer : Answer
+  pub answer : Reply
 
 -- a program of the calls by key, and one that keeps the promises
 abbrev pub Program : Type 0
@@ -47,18 +50,17 @@ pub filed-formed : WellFormed leafLeast filed
 filed-formed = run-formed leafLeast (omega arith) (omega arith) (put 0 9 100 ∷ []) start start-formed
 
 -- one that only refuses: the exact table says that get of a tree that is there is done
-pub only-refuses : (f : Program) → ((c : Call) (ws : List ℕ) → 1 ≤ (f c ws) .answer .number) → Keeps f → ⊥
+pub only-refuses : (f : Program) → ((c : Call) (ws : List ℕ) → kept ((f c ws) .answer) ≡ false) → Keeps f → ⊥
 unfolding steps
 only-refuses f never k =
-    let e : 0 ≡ (f (get 0 9) (encode start)) .answer .number = ap (λ (a : Answer). a .number) ((k (get 0 9) (encode start)) .sound-answer start start-formed refl) in
-    omega (arith, e, never (get 0 9) (encode start))
+    true≢false (ap kept ((k (get 0 9) (encode start)) .sound-answer start start-formed refl) ∙ never (get 0 9) (encode start))
 
 -- one with a fixed answer: get finds nothing in an empty tree, and 100 where 9 is filed with 100
-pub fixed-answer : (f : Program) (a : Answer) → ((c : Call) (ws : List ℕ) → (f c ws) .answer ≡ a) → Keeps f → ⊥
+pub fixed-answer : (f : Program) (a : Reply) → ((c : Call) (ws : List ℕ) → (f c ws) .answer ≡ a) → Keeps f → ⊥
 unfolding steps
 fixed-answer f a same k =
-    let e : 0 ≡ a .value = ap (λ (x : Answer). x .value) ((k (get 0 9) (encode start)) .sound-answer start start-formed refl ∙ same (get 0 9) (encode start)) in
-    let g : 100 ≡ a .value = ap (λ (x : Answer). x .value) ((k (get 0 9) (encode filed)) .sound-answer filed filed-formed refl ∙ same (get 0 9) (encode filed)) in
+    let e : 0 ≡ (answerOf a) .value = ap (λ (x : Reply). (answerOf x) .value) ((k (get 0 9) (encode start)) .sound-answer start start-formed refl ∙ same (get 0 9) (encode start)) in
+    let g : 100 ≡ (answerOf a) .value = ap (λ (x : Reply). (answerOf x) .value) ((k (get 0 9) (encode filed)) .sound-answer filed filed-formed refl ∙ same (get 0 9) (encode filed)) in
     omega (arith, e, g)
 
 -- one that does nothing: a put of 9 in a fresh pool sets the root
@@ -88,19 +90,18 @@ free-count p w =
 
 -- a made-up need: a put is refused with 4 exactly where the rule's need is above F
 pub need-count : (f : Program) → Keeps f → (t k v : ℕ) (p : Pool) → WellFormed leafLeast p → t < length (p .trees) →
-    ((f (put t k v) (encode p)) .answer .number ≡ 4 → length (p .free) < need 7 k (treeOf p t)) ×
-    (length (p .free) < need 7 k (treeOf p t) → (f (put t k v) (encode p)) .answer .number ≡ 4)
+    ((f (put t k v) (encode p)) .answer ≡ Refused NoRoom → length (p .free) < need 7 k (treeOf p t)) ×
+    (length (p .free) < need 7 k (treeOf p t) → (f (put t k v) (encode p)) .answer ≡ Refused NoRoom)
 need-count f k t key v p w there =
-    let e : refused (put t key v) p ≡ (f (put t key v) (encode p)) .answer .number =
-    sym (answer-number (put t key v) p) ∙ ap (λ (a : Answer). a .number) ((k (put t key v) (encode p)) .sound-answer p w refl) in
-    let x = four-exactly t key v p there in
+    let e = (k (put t key v) (encode p)) .sound-answer p w refl in
+    let x = room-exactly t key v p there in
     (λ g. x .0 (e ∙ g), λ g. sym e ∙ x .1 g)
 
 -- The same of the cursor calls: the cursor is handed in with the words
 
 pub record Handed : Type 0 where
   pub words : List ℕ
-  pub answer : Answer
+  pub answer : Reply
   pub cursor : Cursor
 
 abbrev pub Mover : Type 0
@@ -116,19 +117,17 @@ off-end = cursorAt 0 []
 abbrev pub on-nine : Cursor
 on-nine = cursorAt 0 ((1, 0) ∷ [])
 
-pub only-refuses-moves : (f : Mover) → ((v : Move) (c : Cursor) (ws : List ℕ) → 1 ≤ (f v c ws) .answer .number) → KeepsMoves f → ⊥
+pub only-refuses-moves : (f : Mover) → ((v : Move) (c : Cursor) (ws : List ℕ) → kept ((f v c ws) .answer) ≡ false) → KeepsMoves f → ⊥
 unfolding steps
 only-refuses-moves f never k =
-    let e : 0 ≡ (f to-first off-end (encode start)) .answer .number =
-    ap (λ (a : Answer). a .number) ((k to-first off-end (encode start)) .sound-answer start start-formed refl) in
-    omega (arith, e, never to-first off-end (encode start))
+    true≢false (ap kept ((k to-first off-end (encode start)) .sound-answer start start-formed refl) ∙ never to-first off-end (encode start))
 
 -- first tells nothing in an empty tree, and 9 where it is filed
-pub fixed-answer-moves : (f : Mover) (a : Answer) → ((v : Move) (c : Cursor) (ws : List ℕ) → (f v c ws) .answer ≡ a) → KeepsMoves f → ⊥
+pub fixed-answer-moves : (f : Mover) (a : Reply) → ((v : Move) (c : Cursor) (ws : List ℕ) → (f v c ws) .answer ≡ a) → KeepsMoves f → ⊥
 unfolding steps
 fixed-answer-moves f a same k =
-    let e : 0 ≡ a .key = ap (λ (x : Answer). x .key) ((k to-first off-end (encode start)) .sound-answer start start-formed refl ∙ same to-first off-end (encode start)) in
-    let g : 9 ≡ a .key = ap (λ (x : Answer). x .key) ((k to-first off-end (encode filed)) .sound-answer filed filed-formed refl ∙ same to-first off-end (encode filed)) in
+    let e : 0 ≡ (answerOf a) .key = ap (λ (x : Reply). (answerOf x) .key) ((k to-first off-end (encode start)) .sound-answer start start-formed refl ∙ same to-first off-end (encode start)) in
+    let g : 9 ≡ (answerOf a) .key = ap (λ (x : Reply). (answerOf x) .key) ((k to-first off-end (encode filed)) .sound-answer filed filed-formed refl ∙ same to-first off-end (encode filed)) in
     omega (arith, e, g)
 
 -- remove at the cursor on 9 empties the tree

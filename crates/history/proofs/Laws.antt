@@ -1,45 +1,38 @@
 -- PROOFS. Demand 3 on words; words stay sound; a promise settles its outcome
 use mathlib.Core.Path.{_≡_, refl, sym, ap, _∙_}
 use mathlib.Core.List.{List, [], _∷_}
-use mathlib.Core.Bool.{Bool, true, false, cond, _&&_, true≢false}
+use mathlib.Core.Bool.{Bool, true, false, true≢false}
 use Prim.Native.Nat.{ℕ, _+_, _*_, _≤_}
 use native.Mathlib.Omega.{arith}
 use lib.ListN.{length}
 use lib.Dec.{eqb, leb}
 use borrow.Author.Tests.{eqb-true, leb-true, le-ltb}
 use Rattle.forest.specs.Sizes.{mostTrees, mostNodes, leafLeast}
-use Rattle.forest.specs.declared.Answer.{Answer}
+use Rattle.forest.specs.declared.Reply.{Reply}
 use Rattle.forest.specs.declared.Cursor.{Cursor}
-use Rattle.forest.specs.Pools.{Pool, WellFormed, Sound, encode, fresh, Call, get, target, treeOf, refused, call, run, answers, own, ownAnswers, formatted, formatWords, shape}
+use Rattle.forest.specs.Pools.{Pool, WellFormed, Sound, encode, fresh, Call, get, treeOf, refused, call, run, answers, own, ownAnswers, formatted, formatWords, shape}
 use Rattle.forest.specs.Cursors.{Move, to-key, blocked, moveFrom, move}
 use Rattle.forest.specs.Promises.{Calls, Moves}
-use Rattle.forest.proofs.ListLaws.{is, isnt, test}
+use Rattle.forest.proofs.ListLaws.{is, isnt, test, four}
 use Rattle.forest.proofs.PoolLaws.{call-formed, same-trees, same-count}
 use Rattle.forest.proofs.CountLaws.{fresh-formed, encode-length}
 use Rattle.forest.proofs.CallLaws.{get-same}
 use Rattle.forest.proofs.CursorCalls.{move-reads}
 use Rattle.forest.proofs.RemoveLaws.{remove-goes}
-use Rattle.forest.proofs.RunLaws.{answer-number, run-formed, demand-3}
+use Rattle.forest.proofs.RunLaws.{run-formed, demand-3}
 use Rattle.forest.proofs.UniqueLaws.{same-pool}
 use Rattle.forest.proofs.PromiseLaws.{calls-sound, moves-sound, calls-by, one-outcome-sound, one-outcome-unsound}
 use Rattle.sound.specs.Checks.{checked}
 use Rattle.sound.specs.Exact.{Exact}
 use Rattle.sound.proofs.CheckSteps.{exact}
-use Rattle.history.specs.Histories.{Made, by-key, took, sought, Ran, none, one, moved, counts, ownOf, answersOf, Independent, Went, stays, formats, calls, moves}
+use Rattle.history.specs.Histories.{Made, by-key, took, sought, Ran, none, one, moved, ownOf, answersOf, Independent, Went, stays, formats, calls, moves}
 
 -- a format is done only where T, N and the length are as they must be
-pub format-in : (T N len : ℕ) → formatted T N len ≡ 0 → (1 ≤ T) × (T ≤ mostTrees) × (N ≤ mostNodes) × (len ≡ T + 17 * N + 3)
+pub format-in : (T N len : ℕ) → formatted T N len ≡ true → (1 ≤ T) × (T ≤ mostTrees) × (N ≤ mostNodes) × (len ≡ T + 17 * N + 3)
 unfolding formatted
 format-in T N len h =
-    let e = each (leb 1 T) (leb T mostTrees) (leb N mostNodes) (eqb len (T + 17 * N + 3)) h in
+    let e = four (leb 1 T) (leb T mostTrees) (leb N mostNodes) (eqb len (T + 17 * N + 3)) h in
     (leb-true _ _ (e .0), leb-true _ _ (e .1), leb-true _ _ (e .2), eqb-true _ _ (e .3))
-  where
-    each : (a b c d : Bool) → _≡_ {A = ℕ} (cond (a && (b && (c && d))) 0 5) 0 → (a ≡ true) × (b ≡ true) × (c ≡ true) × (d ≡ true)
-    each false b c d h = absurd (omega arith)
-    each true false c d h = absurd (omega arith)
-    each true true false d h = absurd (omega arith)
-    each true true true false h = absurd (omega arith)
-    each true true true true h = (refl, refl, refl, refl)
 
 module _ (m : ℕ) (lo : 1 ≤ m) (hi : m ≤ 4) where
   -- a seek answers as a get of its key
@@ -51,7 +44,7 @@ module _ (m : ℕ) (lo : 1 ≤ m) (hi : m ≤ 4) where
   ]
 
   -- what counts as a call keeps that call's promise
-  pub made-calls : {c : Call} {ws us : List ℕ} {r : Answer} → Made m c ws us r → Calls m c ws us r
+  pub made-calls : {c : Call} {ws us : List ℕ} {r : Reply} → Made m c ws us r → Calls m c ws us r
   made-calls (by-key k) = k
   made-calls (took {c = c} {y = y} k t) = record {
     sound-words = λ p w e. ap encode (sym ((remove-goes m lo hi p w c y (t .free p w e) (t .pair p w e)) .same-pool)) ∙ k .sound-words p w e;
@@ -69,12 +62,12 @@ module _ (m : ℕ) (lo : 1 ≤ m) (hi : m ≤ 4) where
   }
 
   -- a history on the words of a pool is the calls on the pool
-  pub ran-words : {cs : List Call} {ws vs : List ℕ} {rs : List Answer} → Ran m cs ws vs rs → (p : Pool) → WellFormed m p → encode p ≡ ws → encode (run cs p) ≡ vs
+  pub ran-words : {cs : List Call} {ws vs : List ℕ} {rs : List Reply} → Ran m cs ws vs rs → (p : Pool) → WellFormed m p → encode p ≡ ws → encode (run cs p) ≡ vs
   ran-words none p w e = e
   ran-words (one {c = c} k h) p w e = ran-words h ((call c p) .pool) (call-formed m lo hi c p w) ((made-calls k) .sound-words p w e)
   ran-words (moved k q h) p w e = ran-words h p w (e ∙ sym q)
 
-  pub ran-answers : {cs : List Call} {ws vs : List ℕ} {rs : List Answer} → Ran m cs ws vs rs → (p : Pool) → WellFormed m p → encode p ≡ ws → answers cs p ≡ rs
+  pub ran-answers : {cs : List Call} {ws vs : List ℕ} {rs : List Reply} → Ran m cs ws vs rs → (p : Pool) → WellFormed m p → encode p ≡ ws → answers cs p ≡ rs
   ran-answers none p w e = refl
   ran-answers (one {c = c} k h) p w e =
       let a = (made-calls k) .sound-answer p w e in
@@ -90,21 +83,16 @@ module _ (m : ℕ) (lo : 1 ≤ m) (hi : m ≤ 4) where
       (ran cs ((call c p) .pool) (call-formed m lo hi c p w))
 
   -- struck out by the answers is struck out by the pool
-  counts-same : (t : ℕ) (c : Call) (p : Pool) → counts t c ((call c p) .answer) ≡ (eqb (target c) t && eqb (refused c p) 0)
-  counts-same t c p = ap (λ (n : ℕ). eqb (target c) t && eqb n 0) (answer-number c p)
-
   own-same : (t : ℕ) (cs : List Call) (p : Pool) → ownOf t cs (answers cs p) ≡ own t cs p
   own-same t [] p = refl
-  own-same t (c ∷ cs) p =
-      rw (counts-same t c p, own-same t cs ((call c p) .pool))
+  own-same t (c ∷ cs) p = rw (own-same t cs ((call c p) .pool))
 
   answers-same : (t : ℕ) (cs : List Call) (p : Pool) → answersOf t cs (answers cs p) ≡ ownAnswers t cs p
   answers-same t [] p = refl
-  answers-same t (c ∷ cs) p =
-      rw (counts-same t c p, answers-same t cs ((call c p) .pool))
+  answers-same t (c ∷ cs) p = rw (answers-same t cs ((call c p) .pool))
 
   -- DEMAND 3, on words: from the words that formatting gives, any calls on any trees
-  pub independent : (T N : ℕ) → 1 ≤ T → T ≤ 32 → N ≤ 512 → (t : ℕ) (cs : List Call) (vs : List ℕ) (rs : List Answer) →
+  pub independent : (T N : ℕ) → 1 ≤ T → T ≤ 32 → N ≤ 512 → (t : ℕ) (cs : List Call) (vs : List ℕ) (rs : List Reply) →
       Ran m cs (encode (fresh T N)) vs rs → Independent m t (encode (fresh T N)) cs vs rs
   independent T N one-tree few-trees few-nodes t cs vs rs h =
       let p = fresh T N in
@@ -129,15 +117,15 @@ module _ (m : ℕ) (lo : 1 ≤ m) (hi : m ≤ 4) where
       }
 
   -- Soundness after every call, refused or not, from sound words or from words just formatted
-  pub fresh-sound : (T N len : ℕ) → formatted T N len ≡ 0 → Sound m (encode (fresh T N))
+  pub fresh-sound : (T N len : ℕ) → formatted T N len ≡ true → Sound m (encode (fresh T N))
   fresh-sound T N len e =
       let i = format-in T N len e in
       record { pool = fresh T N; formed = fresh-formed m T N (i .0) (i .1) (i .2); same = refl }
 
   format-sound : (T N : ℕ) (ws : List ℕ) → Sound m ws → Sound m (formatWords T N ws)
   unfolding formatWords
-  format-sound T N ws s = elim (test (eqb (formatted T N (length ws)) 0)) [
-    | is e ↦ simp e (fresh-sound T N (length ws) (eqb-true _ _ e))
+  format-sound T N ws s = elim (test (formatted T N (length ws))) [
+    | is e ↦ simp e (fresh-sound T N (length ws) e)
     | isnt e ↦ simp e s
   ]
 
@@ -148,7 +136,7 @@ module _ (m : ℕ) (lo : 1 ≤ m) (hi : m ≤ 4) where
   went-sound (moves {v = v} {c = c} {d = d} {ws = ws} {us = us} {r = r} k h) s = went-sound h (moves-sound m lo hi v c ws us r d k s)
 
 -- A promise settles its outcome: two outcomes of the same call on the same words that keep it are the same, whatever the words
-module _ (c : Call) (before x y : List ℕ) (r s : Answer) (a : Calls leafLeast c before x r) (b : Calls leafLeast c before y s) where
+module _ (c : Call) (before x y : List ℕ) (r s : Reply) (a : Calls leafLeast c before x r) (b : Calls leafLeast c before y s) where
   pub one-outcome : (x ≡ y) × (r ≡ s)
   one-outcome = elim (test (checked before leafLeast)) [
     | is e ↦ one-outcome-sound leafLeast c before x y r s a b ((exact before true (sym e)) .yes refl)
@@ -162,7 +150,7 @@ one-check m ws false true a b = a .every (b .yes refl)
 one-check m ws false false a b = refl
 
 -- A call leaves as many words as there were
-pub same-length : (c : Call) (before after : List ℕ) (r : Answer) → Calls leafLeast c before after r → length after ≡ length before
+pub same-length : (c : Call) (before after : List ℕ) (r : Reply) → Calls leafLeast c before after r → length after ≡ length before
 same-length c before after r k = elim (test (checked before leafLeast)) [
   | is e ↦
       let s : Sound leafLeast before = (exact before true (sym e)) .yes refl in
@@ -179,7 +167,7 @@ same-length c before after r k = elim (test (checked before leafLeast)) [
   | isnt e ↦ ap length (k .unsound-words (λ q. true≢false (sym ((exact before false (sym e)) .every q))))
 ]
 
-module _ (v : Move) (c : Cursor) (before x y : List ℕ) (r s : Answer) (d e : Cursor)
+module _ (v : Move) (c : Cursor) (before x y : List ℕ) (r s : Reply) (d e : Cursor)
     (a : Moves leafLeast v c before x r d) (b : Moves leafLeast v c before y s e) where
   outcome-sound : Sound leafLeast before → (x ≡ y) × (r ≡ s) × (d ≡ e)
   outcome-sound o = (

@@ -6,9 +6,10 @@ use Prim.Native.Nat.{ℕ}
 use native.Mathlib.Omega.{arith}
 use lib.ListN.{replicate}
 use Rattle.forest.specs.Sizes.{leafLeast}
-use Rattle.forest.specs.declared.Answer.{Answer}
+use Rattle.forest.specs.declared.Reply.{Reply}
+use Rattle.forest.specs.declared.Reply.the-variants.{Refused}
+use Rattle.forest.specs.declared.Refusal.the-variants.{Unsound}
 use Rattle.forest.specs.declared.Cursor.{Cursor}
-use Rattle.forest.specs.Answers.{refusal}
 use Rattle.forest.specs.Pools.{Pool, WellFormed, Sound, encode, fresh, Call, put, remove, get, call, run, answers, formatWords}
 use Rattle.forest.specs.Cursors.{cursorAt, Move, move, to-key, to-next, to-remove}
 use Rattle.forest.specs.Promises.{Calls, Moves}
@@ -29,7 +30,7 @@ use Rattle.history.proofs.Fakes.{Outcome, Program, Keeps, Handed, Mover
 -- the outcome on sound words, and on others
 abbrev outcome : (c : Call) (ws : List ℕ) → Test (checked ws leafLeast) → Outcome
 outcome c ws (is e) = let p = ((exact ws true (sym e)) .yes refl) .pool in record { words = encode ((call c p) .pool); answer = (call c p) .answer }
-outcome c ws (isnt e) = record { words = ws; answer = refusal 1 }
+outcome c ws (isnt e) = record { words = ws; answer = Refused Unsound }
 
 -- the definitions themselves, run
 abbrev pub honest : Program
@@ -47,7 +48,7 @@ abbrev handed : (v : Move) (c : Cursor) (ws : List ℕ) → Test (checked ws lea
 handed v c ws (is e) =
     let p = ((exact ws true (sym e)) .yes refl) .pool in
     record { words = encode ((move v c p) .pool); answer = (move v c p) .answer; cursor = (move v c p) .cursor }
-handed v c ws (isnt e) = record { words = ws; answer = refusal 1; cursor = c }
+handed v c ws (isnt e) = record { words = ws; answer = Refused Unsound; cursor = c }
 
 abbrev pub honest-moves : Mover
 honest-moves v c ws = handed v c ws (test (checked ws leafLeast))
@@ -65,7 +66,7 @@ pub on-pool : (v : Move) (c : Cursor) (p : Pool) → WellFormed leafLeast p → 
 on-pool v c p w = moves-by leafLeast (omega arith) v c _ _ _ _ (record { pool = p; formed = w; same = refl }) refl refl refl
 
 -- two histories, one after the other
-join : {m : ℕ} {cs ds : List Call} {ws us vs : List ℕ} {rs ss : List Answer} → Ran m cs ws us rs → Ran m ds us vs ss → Ran m (cs ++ ds) ws vs (rs ++ ss)
+join : {m : ℕ} {cs ds : List Call} {ws us vs : List ℕ} {rs ss : List Reply} → Ran m cs ws us rs → Ran m ds us vs ss → Ran m (cs ++ ds) ws vs (rs ++ ss)
 join none g = g
 join (one k h) g = one k (join h g)
 join (moved k e h) g = moved k e (join h g)
