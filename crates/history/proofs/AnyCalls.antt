@@ -14,7 +14,7 @@ use Rattle.forest.proofs.CursorCalls.{move-done, move-refused}
 use Rattle.forest.proofs.MoveLaws.{row, spotIn}
 use Rattle.forest.proofs.UniqueLaws.{same-pool}
 use Rattle.forest.proofs.PromiseLaws.{calls-sound, moves-sound}
-use Rattle.history.specs.Histories.{Takes, Made, by-key, took, sought, Ran, none, one, moved, Went, stays, formats, calls, moves}
+use Rattle.history.specs.Histories.{Takes, Made, by-key, took, sought, Ran, no-calls, one, moved, Went, stays, formats, calls, moves}
 
 module _ (m : ℕ) where
   -- what a move counts as
@@ -73,7 +73,7 @@ module _ (m : ℕ) (lo : 1 ≤ m) (hi : m ≤ 4) where
   move-counted {r = r} k (as-call a n) h = record { made = a ∷ h .made; answers = r ∷ h .answers; history = one n (h .history) }
 
   pub any-calls : {ws vs : List ℕ} (h : Went m ws vs) → Unformatted m h → Sound m ws → Counted m ws vs
-  any-calls stays u s = record { made = []; answers = []; history = none }
+  any-calls stays u s = record { made = []; answers = []; history = no-calls }
   any-calls (formats T N e h) u s = absurd u
   any-calls (calls {c = c} {ws = ws} {us = us} {r = r} k h) u s =
       let g = any-calls h u (calls-sound m lo hi c ws us r k s) in

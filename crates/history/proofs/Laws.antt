@@ -25,7 +25,7 @@ use Rattle.forest.proofs.PromiseLaws.{calls-sound, moves-sound, calls-by, one-o
 use Rattle.sound.specs.Checks.{checked}
 use Rattle.sound.specs.Exact.{Exact}
 use Rattle.sound.proofs.CheckSteps.{exact}
-use Rattle.history.specs.Histories.{Made, by-key, took, sought, Ran, none, one, moved, ownOf, answersOf, Independent, Went, stays, formats, calls, moves}
+use Rattle.history.specs.Histories.{Made, by-key, took, sought, Ran, no-calls, one, moved, ownOf, answersOf, Independent, Went, stays, formats, calls, moves}
 
 -- a format is done only where T, N and the length are as they must be
 pub format-in : (T N len : ℕ) → formatted T N len ≡ true → (1 ≤ T) × (T ≤ mostTrees) × (N ≤ mostNodes) × (len ≡ T + 17 * N + 3)
@@ -63,12 +63,12 @@ module _ (m : ℕ) (lo : 1 ≤ m) (hi : m ≤ 4) where
 
   -- a history on the words of a pool is the calls on the pool
   pub ran-words : {cs : List Call} {ws vs : List ℕ} {rs : List Reply} → Ran m cs ws vs rs → (p : Pool) → WellFormed m p → encode p ≡ ws → encode (run cs p) ≡ vs
-  ran-words none p w e = e
+  ran-words no-calls p w e = e
   ran-words (one {c = c} k h) p w e = ran-words h ((call c p) .pool) (call-formed m lo hi c p w) ((made-calls k) .sound-words p w e)
   ran-words (moved k q h) p w e = ran-words h p w (e ∙ sym q)
 
   pub ran-answers : {cs : List Call} {ws vs : List ℕ} {rs : List Reply} → Ran m cs ws vs rs → (p : Pool) → WellFormed m p → encode p ≡ ws → answers cs p ≡ rs
-  ran-answers none p w e = refl
+  ran-answers no-calls p w e = refl
   ran-answers (one {c = c} k h) p w e =
       let a = (made-calls k) .sound-answer p w e in
       let b = ran-answers h ((call c p) .pool) (call-formed m lo hi c p w) ((made-calls k) .sound-words p w e) in
@@ -77,7 +77,7 @@ module _ (m : ℕ) (lo : 1 ≤ m) (hi : m ≤ 4) where
 
   -- there is such a history, of any calls by key
   pub ran : (cs : List Call) (p : Pool) → WellFormed m p → Ran m cs (encode p) (encode (run cs p)) (answers cs p)
-  ran [] p w = none
+  ran [] p w = no-calls
   ran (c ∷ cs) p w =
       one (by-key (calls-by m lo c (encode p) (encode ((call c p) .pool)) ((call c p) .answer) (record { pool = p; formed = w; same = refl }) refl refl))
       (ran cs ((call c p) .pool) (call-formed m lo hi c p w))

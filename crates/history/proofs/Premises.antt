@@ -22,7 +22,7 @@ use Rattle.forest.proofs.Trials.{steps}
 use Rattle.sound.specs.Checks.{checked, framed}
 use Rattle.sound.specs.Exact.{Exact}
 use Rattle.sound.proofs.CheckSteps.{exact}
-use Rattle.history.specs.Histories.{took, sought, Ran, none, one, moved, ownOf, Went, stays, formats, calls, moves}
+use Rattle.history.specs.Histories.{took, sought, Ran, no-calls, one, moved, ownOf, Went, stays, formats, calls, moves}
 use Rattle.history.proofs.Laws.{ran}
 use Rattle.history.proofs.AnyCalls.{takes-by, Unformatted}
 use Rattle.history.proofs.Fakes.{Outcome, Program, Keeps, Handed, Mover, KeepsMoves, start, start-formed, filed, filed-formed, on-nine}
@@ -67,7 +67,7 @@ on-pool v c p w = moves-by leafLeast (omega arith) v c _ _ _ _ (record { pool = 
 
 -- two histories, one after the other
 join : {m : ℕ} {cs ds : List Call} {ws us vs : List ℕ} {rs ss : List Reply} → Ran m cs ws us rs → Ran m ds us vs ss → Ran m (cs ++ ds) ws vs (rs ++ ss)
-join none g = g
+join no-calls g = g
 join (one k h) g = one k (join h g)
 join (moved k e h) g = moved k e (join h g)
 
@@ -109,7 +109,7 @@ some-history =
     (one (took (on-pool to-remove on-nine full full-formed) (takes-by leafLeast (omega arith) (omega arith) on-nine (encode full) (9, 100) (record { pool = full; formed = full-formed; same = refl }) refl refl))
     (moved (on-pool to-next on-nine emptied emptied-formed) refl
     (join (ran leafLeast (omega arith) (omega arith) after emptied emptied-formed)
-    (one (sought (on-pool (to-key 5) (cursorAt 1 []) last last-formed)) none))))
+    (one (sought (on-pool (to-key 5) (cursorAt 1 []) last last-formed)) no-calls))))
 
 -- struck out are the puts that were refused, and the calls of other trees
 pub own-calls :

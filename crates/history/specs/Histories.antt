@@ -27,7 +27,7 @@ pub data Made (m : ℕ) : Call → List ℕ → List ℕ → Reply → Type 0 wh
 -- calls by key and on cursors, on any trees, made in this order: those that count, the words before and after, and the answers to those that count.
 -- A move that changed no word counts as none: what it answers, and the cursor it hands back, may go by the nodes' numbers, and nothing is claimed of them here
 pub data Ran (m : ℕ) : List Call → List ℕ → List ℕ → List Reply → Type 0 where
-  none : {ws : List ℕ} → Ran m [] ws ws []
+  no-calls : {ws : List ℕ} → Ran m [] ws ws []
   one : {c : Call} {cs : List Call} {ws us vs : List ℕ} {r : Reply} {rs : List Reply} → Made m c ws us r → Ran m cs us vs rs → Ran m (c ∷ cs) ws vs (r ∷ rs)
   moved : {v : Move} {c d : Cursor} {cs : List Call} {ws us vs : List ℕ} {r : Reply} {rs : List Reply} →
       Moves m v c ws us r d → us ≡ ws → Ran m cs us vs rs → Ran m cs ws vs rs
