@@ -153,12 +153,9 @@ module _ (m : ℕ) (lo : 1 ≤ m) (hi : m ≤ 4) where
       let s = alone calls (λ p t. shape (treeOf p t)) Room calls-by-shape t cs p q w a in
       record { same-answers = s .same-replies; all-done = kept-done (own t cs p) q (s .all-kept); same-shape = s .same-shape }
 
-  -- any calls from a fresh pool, the refused ones struck out: tree t, with its own calls alone in a fresh pool, gives the same answers, none a refusal,
-  -- and comes to the same shape
-  pub demand-3 : (T N : ℕ) → 1 ≤ T → T ≤ 32 → N ≤ 512 → (t : ℕ) (cs : List Call) → Alone t cs (fresh T N) (fresh T N)
-  demand-3 T N a b c t cs =
-      let g = fresh-formed m T N a b c in
-      alone-calls t cs (fresh T N) (fresh T N) (record { joint = g; lone = g; trees = refl; nodes = refl; only = none-used T t }) refl
+  -- a fresh pool has as much room for each tree as another
+  pub fresh-room : (T N : ℕ) → 1 ≤ T → T ≤ 32 → N ≤ 512 → (t : ℕ) → Room t (fresh T N) (fresh T N)
+  fresh-room T N a b c t = let g = fresh-formed m T N a b c in record { joint = g; lone = g; trees = refl; nodes = refl; only = none-used T t }
     where
       none-used : (T t : ℕ) → length (used (replicate T [])) ≡ length (numbers (getD (replicate T []) t []))
       none-used zero t = refl
@@ -168,3 +165,8 @@ module _ (m : ℕ) (lo : 1 ≤ m) (hi : m ≤ 4) where
           none-used′ zero = refl
           none-used′ (suc T) = none-used′ T
       none-used (suc T) (suc t) = none-used T t
+
+  -- any calls from a fresh pool, the refused ones struck out: tree t, with its own calls alone in a fresh pool, gives the same answers, none a refusal,
+  -- and comes to the same shape
+  pub demand-3 : (T N : ℕ) → 1 ≤ T → T ≤ 32 → N ≤ 512 → (t : ℕ) (cs : List Call) → Alone t cs (fresh T N) (fresh T N)
+  demand-3 T N a b c t cs = alone-calls t cs (fresh T N) (fresh T N) (fresh-room T N a b c t) refl

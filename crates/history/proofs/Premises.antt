@@ -1,17 +1,17 @@
 -- PROOFS. The premises of Laws, AnyCalls and Fakes are met: a program that keeps every promise and an exact check, for any words; a history with refused calls, by key and on cursors
 use mathlib.Core.Path.{_≡_, refl, sym}
-use mathlib.Core.List.{List, [], _∷_, _++_}
+use mathlib.Core.List.{List, [], _∷_}
 use mathlib.Core.Bool.{true, false, true≢false}
 use Prim.Native.Nat.{ℕ}
 use native.Mathlib.Omega.{arith}
 use lib.ListN.{replicate}
 use Rattle.forest.specs.Sizes.{leafLeast}
 use Rattle.forest.specs.declared.Reply.{Reply}
-use Rattle.forest.specs.declared.Reply.the-variants.{Refused}
-use Rattle.forest.specs.declared.Refusal.the-variants.{Unsound}
+use Rattle.forest.specs.declared.Reply.the-variants.{Nothing, Value, Pair, Refused}
+use Rattle.forest.specs.declared.Refusal.the-variants.{Unsound, NoTree, NoPlace, NoRoom, NoFormat}
 use Rattle.forest.specs.declared.Cursor.{Cursor}
-use Rattle.forest.specs.Pools.{Pool, WellFormed, Sound, encode, fresh, Call, put, remove, get, call, run, answers, formatWords}
-use Rattle.forest.specs.Cursors.{cursorAt, Move, move, to-key, to-next, to-remove}
+use Rattle.forest.specs.Pools.{Pool, WellFormed, Sound, encode, fresh, Call, put, remove, get, call, run, formatWords, formatAnswer}
+use Rattle.forest.specs.Cursors.{cursorAt, Move, move, to-first, to-key, to-next, to-remove}
 use Rattle.forest.specs.Promises.{Calls, Moves}
 use Rattle.forest.proofs.ListLaws.{Test, is, isnt, test}
 use Rattle.forest.proofs.CountLaws.{fresh-formed}
@@ -22,9 +22,8 @@ use Rattle.forest.proofs.Trials.{steps}
 use Rattle.sound.specs.Checks.{checked, framed}
 use Rattle.sound.specs.Exact.{Exact}
 use Rattle.sound.proofs.CheckSteps.{exact}
-use Rattle.history.specs.Histories.{took, sought, Ran, no-calls, one, moved, ownOf, Went, stays, formats, calls, moves}
-use Rattle.history.proofs.Laws.{ran}
-use Rattle.history.proofs.AnyCalls.{takes-by, Unformatted}
+use Rattle.history.specs.Histories.{ask, least, Ran, ownOf, answersOf, Deed, format, key, at, Went, stays, formats, calls, moves, Unformatted, actsOf, repliesOf}
+use Rattle.history.proofs.AnyCalls.{any-calls}
 use Rattle.history.proofs.Fakes.{Outcome, Program, Keeps, Handed, Mover, KeepsMoves, start, start-formed, filed, filed-formed, on-nine}
 
 -- the outcome on sound words, and on others
@@ -65,74 +64,83 @@ moves-kept v c ws = handed-keeps v c ws (test (checked ws leafLeast))
 pub on-pool : (v : Move) (c : Cursor) (p : Pool) → WellFormed leafLeast p → Moves leafLeast v c (encode p) (encode ((move v c p) .pool)) ((move v c p) .answer) ((move v c p) .cursor)
 on-pool v c p w = moves-by leafLeast (omega arith) v c _ _ _ _ (record { pool = p; formed = w; same = refl }) refl refl refl
 
--- two histories, one after the other
-join : {m : ℕ} {cs ds : List Call} {ws us vs : List ℕ} {rs ss : List Reply} → Ran m cs ws us rs → Ran m ds us vs ss → Ran m (cs ++ ds) ws vs (rs ++ ss)
-join no-calls g = g
-join (one k h) g = one k (join h g)
-join (moved k e h) g = moved k e (join h g)
+-- a call on the words of a pool
+on-key : (c : Call) (p : Pool) → WellFormed leafLeast p → Calls leafLeast c (encode p) (encode ((call c p) .pool)) ((call c p) .answer)
+on-key c p w = calls-by leafLeast (omega arith) c _ _ _ (record { pool = p; formed = w; same = refl }) refl refl
 
--- a history in two trees of a pool of one node: tree 1 is refused for room, tree 2 is not there; 9 is taken at a cursor, which then stands nowhere; 5 is filed and sought
-abbrev before : List Call
-before = put 0 9 100 ∷ put 1 5 50 ∷ put 2 7 70 ∷ get 1 5 ∷ []
+-- public calls in two trees of a pool of one node: tree 1 is refused for room, tree 2 is not there, a format is refused for its length; 9 is taken at a cursor, which
+-- then stands nowhere; 5 is filed, sought and told by first
+abbrev deeds : List Deed
+deeds =
+    key (put 0 9 100) ∷ key (put 1 5 50) ∷ key (put 2 7 70) ∷ format 1 1 ∷ key (get 1 5) ∷ at to-remove on-nine ∷ at to-next on-nine ∷ key (put 1 5 60) ∷
+    at (to-key 5) (cursorAt 1 []) ∷ at to-first (cursorAt 1 []) ∷ []
 
-abbrev after : List Call
-after = put 1 5 60 ∷ []
-
-abbrev cs : List Call
-cs = before ++ (remove 0 9 ∷ (after ++ (get 1 5 ∷ [])))
-
-abbrev full : Pool
-full = run before (fresh 2 1)
+-- the pools in between
+abbrev one-filed : Pool
+one-filed = run (put 0 9 100 ∷ []) (fresh 2 1)
 
 abbrev emptied : Pool
-emptied = (move to-remove on-nine full) .pool
+emptied = (move to-remove on-nine one-filed) .pool
 
 abbrev last : Pool
-last = run after emptied
+last = run (put 1 5 60 ∷ []) emptied
 
-one-formed : WellFormed leafLeast (fresh 2 1)
-one-formed = fresh-formed leafLeast 2 1 (omega arith) (omega arith) (omega arith)
+fresh-two : WellFormed leafLeast (fresh 2 1)
+fresh-two = fresh-formed leafLeast 2 1 (omega arith) (omega arith) (omega arith)
 
-full-formed : WellFormed leafLeast full
-full-formed = run-formed leafLeast (omega arith) (omega arith) before (fresh 2 1) one-formed
+one-formed : WellFormed leafLeast one-filed
+one-formed = run-formed leafLeast (omega arith) (omega arith) (put 0 9 100 ∷ []) (fresh 2 1) fresh-two
 
 emptied-formed : WellFormed leafLeast emptied
-emptied-formed = move-formed leafLeast (omega arith) (omega arith) to-remove on-nine full full-formed
+emptied-formed = move-formed leafLeast (omega arith) (omega arith) to-remove on-nine one-filed one-formed
 
 last-formed : WellFormed leafLeast last
-last-formed = run-formed leafLeast (omega arith) (omega arith) after emptied emptied-formed
+last-formed = run-formed leafLeast (omega arith) (omega arith) (put 1 5 60 ∷ []) emptied emptied-formed
 
-pub some-history : Ran leafLeast cs (encode (fresh 2 1)) (encode last) (answers cs (fresh 2 1))
+-- their answers
+abbrev told : List Reply
+told = Nothing ∷ Refused NoRoom ∷ Refused NoTree ∷ Refused NoFormat ∷ Nothing ∷ Value 100 ∷ Refused NoPlace ∷ Nothing ∷ Value 60 ∷ Pair 5 60 ∷ []
+
+pub some-deeds : Went leafLeast deeds (encode (fresh 2 1)) told (encode last)
+unfolding steps formatWords formatAnswer
+some-deeds =
+    calls (on-key (put 0 9 100) (fresh 2 1) fresh-two)
+    (calls (on-key (put 1 5 50) one-filed one-formed)
+    (calls (on-key (put 2 7 70) one-filed one-formed)
+    (formats 1 1 refl refl
+    (calls (on-key (get 1 5) one-filed one-formed)
+    (moves (on-pool to-remove on-nine one-filed one-formed)
+    (moves (on-pool to-next on-nine emptied emptied-formed)
+    (calls (on-key (put 1 5 60) emptied emptied-formed)
+    (moves (on-pool (to-key 5) (cursorAt 1 []) last last-formed)
+    (moves (on-pool to-first (cursorAt 1 []) last last-formed)
+    stays)))))))))
+
+pub none-formats : Unformatted deeds told
+none-formats = (refl, tt)
+
+-- what they count as, and what demand 3 keeps of it for each tree
+pub some-acts :
+    (ownOf 0 (actsOf deeds (fresh 2 1)) (repliesOf deeds told (fresh 2 1)) ≡ ask (put 0 9 100) ∷ ask (remove 0 9) ∷ []) ×
+    (ownOf 1 (actsOf deeds (fresh 2 1)) (repliesOf deeds told (fresh 2 1)) ≡ ask (get 1 5) ∷ ask (put 1 5 60) ∷ ask (get 1 5) ∷ least 1 ∷ []) ×
+    (answersOf 1 (actsOf deeds (fresh 2 1)) (repliesOf deeds told (fresh 2 1)) ≡ Nothing ∷ Nothing ∷ Value 60 ∷ Pair 5 60 ∷ [])
 unfolding steps
-some-history =
-    join (ran leafLeast (omega arith) (omega arith) before (fresh 2 1) one-formed)
-    (one (took (on-pool to-remove on-nine full full-formed) (takes-by leafLeast (omega arith) (omega arith) on-nine (encode full) (9, 100) (record { pool = full; formed = full-formed; same = refl }) refl refl))
-    (moved (on-pool to-next on-nine emptied emptied-formed) refl
-    (join (ran leafLeast (omega arith) (omega arith) after emptied emptied-formed)
-    (one (sought (on-pool (to-key 5) (cursorAt 1 []) last last-formed)) no-calls))))
+some-acts = (refl, refl, refl)
 
--- struck out are the puts that were refused, and the calls of other trees
-pub own-calls :
-    (ownOf 1 cs (answers cs (fresh 2 1)) ≡ get 1 5 ∷ put 1 5 60 ∷ get 1 5 ∷ []) × (ownOf 0 cs (answers cs (fresh 2 1)) ≡ put 0 9 100 ∷ remove 0 9 ∷ [])
-unfolding steps
-own-calls = (refl, refl)
+-- a history, then
+pub some-history : Ran leafLeast (actsOf deeds (fresh 2 1)) (encode (fresh 2 1)) (encode last) (repliesOf deeds told (fresh 2 1))
+some-history = any-calls leafLeast (omega arith) (omega arith) some-deeds none-formats (fresh 2 1) fresh-two refl
 
--- any calls in any order from sound words, none a format: filed, and taken out at a cursor
+-- sound words; and words that are no pool: refused there, then formatted
 abbrev pub start-sound : Sound leafLeast (encode start)
 start-sound = record { pool = start; formed = start-formed; same = refl }
 
-abbrev pub sound-calls : Went leafLeast (encode start) (encode ((move to-remove on-nine filed) .pool))
-sound-calls = calls (calls-by leafLeast (omega arith) (put 0 9 100) _ _ _ start-sound refl refl) (moves (on-pool to-remove on-nine filed filed-formed) stays)
-
-pub none-formats : Unformatted leafLeast sound-calls
-none-formats = tt
-
--- and from words that are no pool: refused, formatted, and then these
-pub some-calls : (Sound leafLeast (replicate 38 0) → ⊥) × Went leafLeast (replicate 38 0) (encode (fresh 1 2))
-unfolding steps checked framed formatWords
+pub some-calls : (Sound leafLeast (replicate 38 0) → ⊥) ×
+    Went leafLeast (key (put 0 9 100) ∷ format 1 2 ∷ key (put 0 9 100) ∷ []) (replicate 38 0) (Refused Unsound ∷ Nothing ∷ Nothing ∷ []) (encode filed)
+unfolding steps checked framed formatWords formatAnswer
 some-calls =
     let n : Sound leafLeast (replicate 38 0) → ⊥ = λ q. true≢false (sym ((exact (replicate 38 0) false refl) .every q)) in
-    (n, calls (calls-unsound leafLeast (omega arith) (put 0 9 100) (replicate 38 0) n) (formats 1 2 refl sound-calls))
+    (n, calls (calls-unsound leafLeast (omega arith) (put 0 9 100) (replicate 38 0) n) (formats 1 2 refl refl (calls (on-key (put 0 9 100) start start-formed) stays)))
 
 -- a check that is exact, for any words
 pub some-check : (ws : List ℕ) → Exact leafLeast ws (checked ws leafLeast)
