@@ -24,7 +24,7 @@ use Rattle.sound.specs.Exact.{Exact}
 use Rattle.sound.proofs.CheckSteps.{exact}
 use Rattle.history.specs.Histories.{ask, least, Ran, ownOf, answersOf, Deed, format, key, at, Went, stays, formats, calls, moves, Unformatted, actsOf, repliesOf}
 use Rattle.history.proofs.AnyCalls.{any-calls}
-use Rattle.history.proofs.Fakes.{Outcome, Program, Keeps, Handed, Mover, KeepsMoves, start, start-formed, filed, filed-formed, on-nine}
+use Rattle.history.proofs.Fakes.{Outcome, Program, Keeps, Handed, Mover, KeepsMoves, start, start-formed, filed, on-nine}
 
 -- the outcome on sound words, and on others
 abbrev outcome : (c : Call) (ws : List ℕ) → Test (checked ws leafLeast) → Outcome
