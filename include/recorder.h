@@ -106,10 +106,12 @@ recorder_moved recorder_remove_at(uint32_t *words, size_t len, recorder_cursor a
  * THE CORES. Each does what the public call does and costs no check of the pool. What it requires is the caller's to
  * keep: where it does not hold, behaviour is undefined (words are read and written out of bounds).
  *
- * - The words must be sound: recorder_check says true, and nothing but the calls of this header wrote them since. A
- *   call on sound words leaves sound words, so one check at the start is enough for words that no one else writes.
+ * - The words must be sound: recorder_check says true, or recorder_format was done on them, and nothing but the calls
+ *   of this header wrote them since. A call on sound words leaves sound words, so one check, or a format that was done,
+ *   is enough at the start for words that no one else writes.
  * - Where a cursor is required to stand, recorder_sound_stands must say true of it. A cursor that a call has handed
- *   back unrefused stands, until the next put, remove or format in the same words.
+ *   back unrefused stands until the next put, remove, remove at a cursor or format in the same words; then it is judged
+ *   anew. The one that a remove at a cursor hands back stands in the words that it left.
  */
 
 /* Requires sound words. Whether the cursor's tree is there and the cursor stands in it. */

@@ -14,7 +14,6 @@ use Rattle.forest.specs.Pairs.{Item, Above, Rising, has}
 use Rattle.forest.specs.Rows.{Row, Tree, size, sizes, nums, front, fronts, joined, line, Fill, Tower, Good}
 use Rattle.forest.specs.Trees.{pairs, numbers}
 use Rattle.forest.specs.Pools.{Pool, WellFormed, used, treeOf}
-use Rattle.forest.specs.Cursors.{on, pathOf}
 use Rattle.forest.proofs.ListLaws.{cons-eq, map-append, map-drop}
 use Rattle.forest.proofs.PairLaws.{rising-left, rising-right}
 use Rattle.forest.proofs.RowLaws.{sum-sizes, length-line}
@@ -24,7 +23,6 @@ use Rattle.forest.proofs.PoolLaws.{good-at}
 use Rattle.forest.proofs.CountLaws.{small, in-range, nodes-all}
 use Rattle.forest.proofs.WordLaws.{rowAt}
 use Rattle.forest.proofs.CallLaws.{two-trees}
-use Rattle.forest.proofs.StandLaws.{length-pathUp}
 
 -- "In a tree keys rise strictly"
 pub keys-rise : (m : ℕ) (p : Pool) (t : ℕ) → WellFormed m p → Rising (pairs (treeOf p t))
@@ -33,10 +31,6 @@ keys-rise m p t h = go (treeOf p t) (good-at m (p .trees) t (h .good))
     go : (x : Tree) → Good m 7 x → Rising (pairs x)
     go [] g = tt
     go (L ∷ Rs) g = g .0
-
--- "all leaves are at one depth": the path to any leaf has a level for each row
-pub one-depth : (L : Row) (Rs : List Row) (j e : ℕ) → length (pathOf (L ∷ Rs) (on j e)) ≡ length (L ∷ Rs)
-one-depth L Rs j e = omega (arith, length-pathUp j Rs ((getD (nums L) j 0, e) ∷ []))
 
 -- "each inner key equals the smallest key below the child to its right"
 
