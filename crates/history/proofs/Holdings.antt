@@ -133,6 +133,7 @@ call-struck {ws = ws} k e = elim (decide ws) [
   | unsound n ↦ k .unsound-words n
 ]
 
+-- a key with no value is not there
 missing : (x : ℕ) (xs : List Item) → lookup x xs ≡ none → has x xs ≡ false
 missing x [] e = refl
 missing x (y ∷ ys) e = elim (test (eqb x (y .0))) [
@@ -140,34 +141,33 @@ missing x (y ∷ ys) e = elim (test (eqb x (y .0))) [
   | isnt f ↦ simp f (missing x ys (simp f at e))
 ]
 
-module _ (m : ℕ) (lo : 1 ≤ m) (hi : m ≤ 4) {t x : ℕ} {ws us : List ℕ} {r : Reply} {xs : List Item} (h : Holds m ws t xs) where
+module _ (m : ℕ) (lo : 1 ≤ m) (hi : m ≤ 4) {t x : ℕ} {ws us : List ℕ} {r : Reply} {xs : List Item} where
   -- get: done, and no word changes
-  pub get-holds : Calls m (get t x) ws us r → Does m (get t x) us r xs × (us ≡ ws)
-  get-holds k = (
+  pub get-holds : Calls m (get t x) ws us r → Holds m ws t xs → Does m (get t x) us r xs × (us ≡ ws)
+  get-holds k h = (
     does-by m lo hi k h (call-free (get t x) (h .sound .pool) (record { there = h .there; enough = omega arith })),
     words-by m lo hi k (h .sound) (get-same t x (h .sound .pool)),
   )
 
   -- remove: done
-  pub remove-holds : Calls m (remove t x) ws us r → Does m (remove t x) us r xs
-  remove-holds k = does-by m lo hi k h (call-free (remove t x) (h .sound .pool) (record { there = h .there; enough = omega arith }))
+  pub remove-holds : Calls m (remove t x) ws us r → Holds m ws t xs → Does m (remove t x) us r xs
+  remove-holds k h = does-by m lo hi k h (call-free (remove t x) (h .sound .pool) (record { there = h .there; enough = omega arith }))
 
   -- of a key that is not there no word changes
-  pub remove-missing : Calls m (remove t x) ws us r → lookup x xs ≡ none → us ≡ ws
-  remove-missing k e =
+  pub remove-missing : Calls m (remove t x) ws us r → Holds m ws t xs → lookup x xs ≡ none → us ≡ ws
+  remove-missing k h e =
       let n : has x (pairs (treeOf (h .sound .pool) t)) ≡ false = ap (has x) (h .same) ∙ missing x xs e in
       words-by m lo hi k (h .sound) (ap (λ z. z .pool) (remove-absent m lo t x (h .sound .pool) (h .sound .formed) (h .there) n))
 
-  module _ {v : ℕ} (k : Calls m (put t x v) ws us r) where
+  module _ {v : ℕ} (k : Calls m (put t x v) ws us r) (h : Holds m ws t xs) where
     -- put: done, or refused for room
     pub put-holds : Filed m t x v ws us r xs
-    put-holds =
-        elim (test (ltb (length (h .sound .pool .free)) (need leafCap x (treeOf (h .sound .pool) t)))) [
-          | is e ↦
-              let d = refused-by m lo hi k (h .sound) NoRoom (refused-four (put t x v) (h .sound .pool) (h .there) (ltb-true _ _ e)) in
-              no-room (d .0) (d .1)
-          | isnt e ↦ filed (does-by m lo hi k h (call-free (put t x v) (h .sound .pool) (record { there = h .there; enough = ltb-false _ _ e })))
-        ]
+    put-holds = elim (test (ltb (length (h .sound .pool .free)) (need leafCap x (treeOf (h .sound .pool) t)))) [
+      | is e ↦
+          let d = refused-by m lo hi k (h .sound) NoRoom (refused-four (put t x v) (h .sound .pool) (h .there) (ltb-true _ _ e)) in
+          no-room (d .0) (d .1)
+      | isnt e ↦ filed (does-by m lo hi k h (call-free (put t x v) (h .sound .pool) (record { there = h .there; enough = ltb-false _ _ e })))
+    ]
 
     -- for room exactly where it takes more nodes than are free
     pub put-room :
@@ -178,7 +178,7 @@ module _ (m : ℕ) (lo : 1 ≤ m) (hi : m ≤ 4) {t x : ℕ} {ws us : List ℕ} 
         let e = room-exactly t x v (h .sound .pool) (h .there) in
         (λ q. e .0 (a ∙ q), λ q. sym a ∙ e .1 q)
 
-    -- put of a value that is held changes no word
+    -- of a value that is held: no word changes
     pub put-known : lookup x xs ≡ some v → (r ≡ Value v) × (us ≡ ws)
     put-known e =
         let p = h .sound .pool in
