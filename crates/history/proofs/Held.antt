@@ -14,7 +14,7 @@ use Rattle.forest.specs.declared.Reply.the-variants.{Value}
 use Rattle.forest.specs.declared.Cursor.{Cursor}
 use Rattle.forest.specs.Answers.{kept}
 use Rattle.forest.specs.Pools.{Pool, WellFormed, encode, Call, put, get, treeOf, call, run}
-use Rattle.forest.specs.Cursors.{cursorAt, stands, Move, to-first, to-key, to-remove, move}
+use Rattle.forest.specs.Cursors.{cursorAt, stands, Move, to-first, to-key, to-next, to-remove, move}
 use Rattle.forest.specs.Promises.{Calls, Moves}
 use Rattle.forest.proofs.PoolLaws.{call-formed}
 use Rattle.forest.proofs.RunLaws.{run-formed}
@@ -130,10 +130,10 @@ pub wholes : Whole cursor × Whole ((move to-first (cursorAt 0 []) pool) .cursor
 unfolding steps
 wholes = (record { nodes = refl; places = refl }, record { nodes = refl; places = refl }, record { nodes = refl; places = refl }, record { nodes = refl; places = refl })
 
--- one that stands nowhere in tree 0
-pub nowhere : stands (treeOf (nine-held .sound .pool) 0) (cursorAt 0 ((1, 0) ∷ [])) ≡ false
+-- one that stands nowhere in tree 0, so that next is refused
+pub nowhere : (stands (treeOf (nine-held .sound .pool) 0) (cursorAt 0 ((1, 0) ∷ [])) ≡ false) × (kept ((move to-next (cursorAt 0 ((1, 0) ∷ [])) pool) .answer) ≡ false)
 unfolding steps
-nowhere = refl
+nowhere = (refl, refl)
 
 -- 30 is taken out at its cursor
 pub thirty-taken : TakesOut leafLeast cursor (encode ((move to-remove cursor pool) .pool)) ((move to-remove cursor pool) .answer) ((move to-remove cursor pool) .cursor) nine 2 (30, 3)

@@ -79,6 +79,7 @@ module _ (m : ℕ) (lo : 1 ≤ m) (hi : m ≤ 4) {c : Call} {ws us : List ℕ} {
     same = k .sound-words (s .pool) (s .formed) (s .same);
   }
 
+  -- and the answer
   answered : (s : Sound m ws) → (call c (s .pool)) .answer ≡ r
   answered s = k .sound-answer (s .pool) (s .formed) (s .same)
 
@@ -86,6 +87,7 @@ module _ (m : ℕ) (lo : 1 ≤ m) (hi : m ≤ 4) {c : Call} {ws us : List ℕ} {
   words-by : (s : Sound m ws) → (call c (s .pool)) .pool ≡ s .pool → us ≡ ws
   words-by s e = sym (k .sound-words (s .pool) (s .formed) (s .same)) ∙ ap encode e ∙ s .same
 
+  -- a call that the pool does not refuse, and one that it does
   pub does-by : {xs : List Item} (h : Holds m ws (target c) xs) → refused c (h .sound .pool) ≡ none → Does m c us r xs
   does-by h e =
       let p = h .sound .pool in
@@ -107,7 +109,7 @@ module _ (m : ℕ) (lo : 1 ≤ m) (hi : m ≤ 4) {c : Call} {ws us : List ℕ} {
   pub call-holds : {xs : List Item} → Holds m ws (target c) xs → kept r ≡ true → Does m c us r xs
   call-holds h e = does-by h (free-kept c (h .sound .pool) (ap kept (answered (h .sound)) ∙ e))
 
-  -- other trees keep their list, whatever the answer
+  -- other trees keep their list, whatever it answers
   pub other-holds : {s : ℕ} {ys : List Item} → s ≢ target c → Holds m ws s ys → Holds m us s ys
   other-holds {s} n h = record {
     sound = after-call (h .sound);

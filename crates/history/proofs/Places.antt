@@ -43,6 +43,7 @@ module _ (m : ℕ) (lo : 1 ≤ m) (hi : m ≤ 4) {v : Move} {c d : Cursor} {ws u
     same = k .sound-words (s .pool) (s .formed) (s .same);
   }
 
+  -- the answer and the cursor
   answered : (s : Sound m ws) → (move v c (s .pool)) .answer ≡ r
   answered s = k .sound-answer (s .pool) (s .formed) (s .same)
 
@@ -53,6 +54,7 @@ module _ (m : ℕ) (lo : 1 ≤ m) (hi : m ≤ 4) {v : Move} {c d : Cursor} {ws u
   words-by : (s : Sound m ws) → (move v c (s .pool)) .pool ≡ s .pool → us ≡ ws
   words-by s e = sym (k .sound-words (s .pool) (s .formed) (s .same)) ∙ ap encode e ∙ s .same
 
+  -- and with it the cursor
   remains-by : (s : Sound m ws) {a : Reply} → move v c (s .pool) ≡ record { answer = a; cursor = c; pool = s .pool } → Remains c ws us r d a
   remains-by s e = record {
     words = words-by s (ap (λ z. z .pool) e);
@@ -76,14 +78,16 @@ module _ (m : ℕ) (lo : 1 ≤ m) (hi : m ≤ 4) {v : Move} {c d : Cursor} {ws u
   pub no-place-moves : {xs : List Item} (h : Holds m ws (c .tree) xs) → reads v ≡ true → stands (treeOf (h .sound .pool) (c .tree)) c ≡ false → Remains c ws us r d (Refused NoPlace)
   no-place-moves h o n = remains-by (h .sound) (move-refused v c (h .sound .pool) NoPlace ((move-three v c (h .sound .pool) (h .there)) .1 (o, n)))
 
-  -- a move that is not refused, to the spot x
+  -- A move that is not refused
   module _ (s : Sound m ws) (there : c .tree < length (s .pool .trees)) (e : blocked v c (s .pool) ≡ none) where
+    -- what it leaves: the pool and the cursor
     abbrev q : Pool
     q = (move v c (s .pool)) .pool
 
     abbrev z : Cursor
     z = (move v c (s .pool)) .cursor
 
+    -- the cursor is of the same tree, it stands, and it is whole
     of-tree : z .tree ≡ c .tree
     unfolding moveFrom
     of-tree = ap (λ u. (u .cursor) .tree) (move-done v c (s .pool) e)
@@ -98,6 +102,7 @@ module _ (m : ℕ) (lo : 1 ≤ m) (hi : m ≤ 4) {v : Move} {c d : Cursor} {ws u
         let n = moved-stands m lo hi v c (s .pool) (s .formed) e in
         subst Whole (n .same) (whole-at (z .tree) (pathOf (treeOf q (c .tree)) (n .spot)))
 
+    -- so it stands where the move comes to
     comes : {a : Reply} {x : Spot} {xs : List Item} {i : ℕ} {o : Option Item} → MovesTo (move v c (s .pool)) a x →
         pairs (treeOf q (c .tree)) ≡ xs → position (leaves (treeOf q (c .tree))) x ≡ i → pairAt (leaves (treeOf q (c .tree))) x ≡ o → Comes m c us d xs i o
     comes {xs = xs} {i = i} {o = o} g l b n =
@@ -112,11 +117,12 @@ module _ (m : ℕ) (lo : 1 ≤ m) (hi : m ≤ 4) {v : Move} {c d : Cursor} {ws u
           };
         })
 
-    -- any move but a remove: to a spot
+    -- any move but a remove
     module _ (n : v ≢ to-remove) where
       unchanged : q ≡ s .pool
       unchanged = move-reads m lo hi v c (s .pool) n
 
+      -- to a spot
       goes-to : {a : Reply} {x : Spot} {i : ℕ} {o : Option Item} → MovesTo (move v c (s .pool)) a x →
           position (row (s .pool) c) x ≡ i → pairAt (row (s .pool) c) x ≡ o → Goes m c ws us r d a (list (s .pool) c) i o
       goes-to g b y = record {
