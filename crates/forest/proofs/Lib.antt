@@ -1,4 +1,5 @@
 pub mod Trials
+pub mod Plays
 pub mod Recorded
 pub mod ListLaws
 pub mod Reasons

@@ -6,7 +6,6 @@ use crate::faults::{Fault, Made};
 use crate::guard::{Pages, Side};
 use crate::raw::{self, Call, Moved};
 use crate::sound::{self, Broken, Pool};
-use std::hint::black_box;
 
 /// Words, and what they say.
 pub struct State {
@@ -58,12 +57,6 @@ fn has_core(call: &Call, pool: &Result<Pool, Broken>) -> bool {
         }
         _ => true,
     }
-}
-
-/// Leaves numbers on the stack where the next call has its own: what it does not fill it would find there.
-#[inline(never)]
-fn dirty_stack() {
-    black_box(&mut [0xA5A5_A5A5_u32; 2048]);
 }
 
 /// Words as text, if they are few.
@@ -135,7 +128,6 @@ impl Trial {
         pages.lay(&state.words);
         pages.lock(asked.after.is_none() && way != Way::Public(Side::End));
         let (words, len) = (pages.pointer(), pages.count());
-        dirty_stack();
         // SAFETY: the pages hold the words; a core is only called where `has_core` says that it may be.
         let mut moved = unsafe {
             match way {
