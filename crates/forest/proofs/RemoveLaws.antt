@@ -4,7 +4,7 @@ use mathlib.Core.List.{List, [], _∷_}
 use mathlib.Core.Bool.{true, true≢false}
 use mathlib.Core.Logic.{_≢_}
 use mathlib.Core.Option.{Option, none, some}
-use Prim.Native.Nat.{ℕ, zero, suc, _-_, _≤_, _<_}
+use Prim.Native.Nat.{ℕ, zero, suc, _≤_, _<_}
 use native.Mathlib.Omega.{arith}
 use lib.ListN.{length, getD, getElem?}
 use borrow.Author.Tests.{lt-ltb}
@@ -17,7 +17,7 @@ use Rattle.forest.specs.declared.Cursor.{Cursor}
 use Rattle.forest.specs.declared.Reply.the-variants.{Nothing, Value}
 use Rattle.forest.specs.Answers.{held, valued}
 use Rattle.forest.specs.Pools.{Pool, WellFormed, remove, call, refused, treeOf, nodeWords}
-use Rattle.forest.specs.Cursors.{Spot, off, on, leaves, Fits, pairAt, seek, position, spotAt, pathOf, cursorAt, pathIn, stands, Move, to-first, to-key, to-next, to-prev, to-settled, to-remove, removed, leftPool, leftSpot, Moved, blocked, moveFrom, move}
+use Rattle.forest.specs.Cursors.{Spot, off, on, leaves, Fits, pairAt, seek, position, spotAt, pathOf, cursorAt, spotOf, pathIn, stands, Move, to-first, to-key, to-next, to-prev, to-settled, to-remove, removed, leftPool, leftSpot, Moved, blocked, moveFrom, move}
 use Rattle.forest.proofs.Reasons.{passes, stops, verdict, number}
 use Rattle.forest.proofs.PairLaws.{place-lt, place-key, place-delete}
 use Rattle.forest.proofs.TowerLaws.{tower-some}
@@ -52,6 +52,12 @@ pub record Removes (p : Pool) (c : Cursor) (y : Item) (r : Moved) : Type 0 where
   -- the cursor has the place of the pair that went: on the next pair, or off the end
   pub comes : spotIn (r .pool) (r .cursor) ≡ spotAt (leaves (treeOf (r .pool) (c .tree))) (rank p c)
   pub on-next : pairAt (leaves (treeOf (r .pool) (c .tree))) (spotAt (leaves (treeOf (r .pool) (c .tree))) (rank p c)) ≡ getElem? (list p c) (suc (rank p c))
+
+-- a cursor that stands is the one of its spot, bit for bit
+pub stays : (t : Tree) (c : Cursor) → length (c .nodes) ≡ mostLevels → length (c .places) ≡ mostLevels → stands t c ≡ true → cursorAt (c .tree) (pathOf t (spotOf t (pathIn c))) ≡ c
+stays t c a b s =
+    let q = stands-parts t c s in
+    ap (cursorAt (c .tree)) (runs-path t (pathIn c) (q .1)) ∙ cursor-back c a b (q .0)
 
 module _ (m : ℕ) (lo : 1 ≤ m) (hi : m ≤ 4) (p : Pool) (h : WellFormed m p) (c : Cursor) where
   pub remove-goes : (y : Item) → blocked to-remove c p ≡ none → pairAt (row p c) (spotIn p c) ≡ some y → Removes p c y (move to-remove c p)
@@ -90,17 +96,11 @@ module _ (m : ℕ) (lo : 1 ≤ m) (hi : m ≤ 4) (p : Pool) (h : WellFormed m p)
           spotAt (leaves (treeOf ((call (remove (c .tree) (y .0)) p) .pool) (c .tree))) (rank p c)
       spots q = rw q
 
-  -- a cursor that stands is the one of its spot, bit for bit
-  stays : length (c .nodes) ≡ mostLevels → length (c .places) ≡ mostLevels → stands (treeOf p (c .tree)) c ≡ true → cursorAt (c .tree) (pathOf (treeOf p (c .tree)) (spotIn p c)) ≡ c
-  stays a b s =
-      let q = stands-parts (treeOf p (c .tree)) c s in
-      ap (cursorAt (c .tree)) (runs-path (treeOf p (c .tree)) (pathIn c) (q .1)) ∙ cursor-back c a b (q .0)
-
   -- on no pair: not found, and neither pool nor cursor changes
   pub remove-none : length (c .nodes) ≡ mostLevels → length (c .places) ≡ mostLevels → blocked to-remove c p ≡ none → pairAt (row p c) (spotIn p c) ≡ none →
       move to-remove c p ≡ record { answer = Nothing; cursor = c; pool = p }
   unfolding moveFrom
-  remove-none a b e q = rw (move-done to-remove c p e, q, stays a b (blocked-stands to-remove c p e refl))
+  remove-none a b e q = rw (move-done to-remove c p e, q, stays (treeOf p (c .tree)) c a b (blocked-stands to-remove c p e refl))
 
 -- seek of a key that is held stands on its pair
 seek-on : (m k : ℕ) (t : Tree) → 1 ≤ m → Good m 7 t → has k (pairs t) ≡ true →

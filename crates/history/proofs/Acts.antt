@@ -3,7 +3,7 @@ use mathlib.Core.Path.{_≡_, refl, sym, ap, _∙_}
 use mathlib.Core.List.{List, [], _∷_, map}
 use mathlib.Core.Bool.{true, true≢false}
 use mathlib.Core.Logic.{_≢_}
-use mathlib.Core.Option.{Option, none, some}
+use mathlib.Core.Option.{none}
 use Prim.Native.Nat.{ℕ, _≤_, _<_}
 use native.Mathlib.Omega.{arith}
 use lib.ListN.{length, getElem?}
@@ -17,7 +17,7 @@ use Rattle.forest.specs.declared.Reply.{Reply}
 use Rattle.forest.specs.declared.Reply.the-variants.{Refused}
 use Rattle.forest.specs.Answers.{told, kept}
 use Rattle.forest.specs.Runs.{finally, replies, ownCalls, ownReplies, AllKept}
-use Rattle.forest.specs.Pools.{Pool, WellFormed, Sound, encode, get, treeOf, refused, call, blank, shape, AllDone}
+use Rattle.forest.specs.Pools.{Pool, WellFormed, Sound, encode, get, refused, call, blank, shape, AllDone}
 use Rattle.forest.specs.Cursors.{leaves, pairAt, first, cursorAt, Move, to-first, to-key, to-remove, blocked, moveFrom, move}
 use Rattle.forest.specs.Promises.{Moves}
 use Rattle.forest.proofs.ListLaws.{is, isnt, test, cons-eq}
@@ -29,6 +29,7 @@ use Rattle.forest.proofs.MoveLaws.{barred, move-free}
 use Rattle.forest.proofs.RemoveLaws.{remove-goes}
 use Rattle.forest.proofs.PromiseLaws.{calls-by, moves-by}
 use Rattle.history.specs.Histories.{Act, ask, least, actAnswer, actPool, acts, Made, by-key, took, sought, led, Ran, no-calls, one, moved, unformatted, ranWords, AllSound, ownOf, answersOf}
+use Rattle.history.proofs.Spots.{done-kept}
 
 -- first is refused for its tree number alone
 pub first-kept : (t : ℕ) (p : Pool) → kept (actAnswer (least t) p) ≡ true → blocked to-first (cursorAt t []) p ≡ none
@@ -40,15 +41,8 @@ first-kept t p k = elim (verdict (blocked to-first (cursorAt t []) p)) [
 pub first-there : (t : ℕ) (p : Pool) → kept (actAnswer (least t) p) ≡ true → t < length (p .trees)
 first-there t p k = (barred to-first (cursorAt t []) p) .there (λ z. omega (arith, ap number (sym (first-kept t p k) ∙ z)))
 
-told-kept : (o : Option Item) → kept (told o) ≡ true
-told-kept none = refl
-told-kept (some y) = refl
-
 pub kept-first : (t : ℕ) (p : Pool) → t < length (p .trees) → kept (actAnswer (least t) p) ≡ true
-unfolding moveFrom
-kept-first t p h =
-    ap (λ d. kept (d .answer)) (move-done to-first (cursorAt t []) p (move-free to-first (cursorAt t []) p h (λ r. absurd (true≢false (sym r))))) ∙
-    told-kept (pairAt (leaves (treeOf p t)) (first (leaves (treeOf p t))))
+kept-first t p h = done-kept to-first (cursorAt t []) p (move-free to-first (cursorAt t []) p h (λ r. absurd (true≢false (sym r))))
 
 -- and what it tells goes by the shape of its tree
 leads : (n : Node) (R : Row) → pairAt (n ∷ R) (first (n ∷ R)) ≡ getElem? (n .items) 0

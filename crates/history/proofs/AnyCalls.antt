@@ -21,7 +21,7 @@ use Rattle.forest.proofs.CountLaws.{fresh-formed}
 use Rattle.forest.proofs.CursorCalls.{move-done, move-refused, move-reads, move-formed}
 use Rattle.forest.proofs.MoveLaws.{row, spotIn}
 use Rattle.forest.proofs.UniqueLaws.{same-pool}
-use Rattle.history.specs.Histories.{Takes, Act, by-key, took, sought, led, Ran, no-calls, one, moved, unformatted, Independent, Deed, Went, stays, formats, calls, moves, Unformatted, moveAct, countIn, actsOf, repliesOf}
+use Rattle.history.specs.Histories.{Takes, Act, by-key, took, sought, led, Ran, no-calls, one, moved, unformatted, Independent, Event, Went, stays, formats, calls, moves, Unformatted, moveAct, countIn, actsOf, repliesOf}
 use Rattle.history.proofs.Independence.{independent}
 
 -- a format that is refused changes no word
@@ -63,7 +63,7 @@ module _ (m : ℕ) (lo : 1 ≤ m) (hi : m ≤ 4) where
     move-counted to-settled k = reads k (λ z. let y : _≡_ {A = ℕ} 0 1 = cc in omega arith)
     move-counted to-remove k = removes k (verdict (blocked to-remove c p)) _ refl
 
-  pub any-calls : {ds : List Deed} {ws vs : List ℕ} {rs : List Reply} → Went m ds ws rs vs → Unformatted ds rs → (p : Pool) → WellFormed m p → encode p ≡ ws →
+  pub any-calls : {ds : List Event} {ws vs : List ℕ} {rs : List Reply} → Went m ds ws rs vs → Unformatted ds rs → (p : Pool) → WellFormed m p → encode p ≡ ws →
       Ran m (actsOf ds p) ws vs (repliesOf ds rs p)
   any-calls stays u p w b = no-calls
   any-calls (formats T N {ws = ws} e a h) u p w b =
@@ -75,7 +75,7 @@ module _ (m : ℕ) (lo : 1 ≤ m) (hi : m ≤ 4) where
       move-counted p w b (any-calls h u ((move v c p) .pool) (move-formed m lo hi v c p w) (k .sound-words p w b)) v k
 
   -- DEMAND 3 of any public calls, from the words that formatting gives
-  pub all-independent : (T N : ℕ) → 1 ≤ T → T ≤ 32 → N ≤ 512 → (t : ℕ) {ds : List Deed} {vs : List ℕ} {rs : List Reply} →
+  pub all-independent : (T N : ℕ) → 1 ≤ T → T ≤ 32 → N ≤ 512 → (t : ℕ) {ds : List Event} {vs : List ℕ} {rs : List Reply} →
       Went m ds (encode (fresh T N)) rs vs → Unformatted ds rs → Independent m t (encode (fresh T N)) (actsOf ds (fresh T N)) vs (repliesOf ds rs (fresh T N))
   all-independent T N one-tree few-trees few-nodes t h u =
       independent m lo hi T N one-tree few-trees few-nodes t _ _ _ (any-calls h u (fresh T N) (fresh-formed m T N one-tree few-trees few-nodes) refl)

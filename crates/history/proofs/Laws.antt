@@ -20,7 +20,7 @@ use Rattle.forest.proofs.PromiseLaws.{calls-sound, moves-sound, one-outcome-sou
 use Rattle.sound.specs.Checks.{checked}
 use Rattle.sound.specs.Exact.{Exact}
 use Rattle.sound.proofs.CheckSteps.{exact}
-use Rattle.history.specs.Histories.{AllSound, Deed, Went, stays, formats, calls, moves, wentWords}
+use Rattle.history.specs.Histories.{AllSound, Event, Went, stays, formats, calls, moves, wentWords}
 
 -- a format is done only where T, N and the length are as they must be
 pub format-in : (T N len : ℕ) → formatted T N len ≡ true → (1 ≤ T) × (T ≤ mostTrees) × (N ≤ mostNodes) × (len ≡ T + 17 * N + 3)
@@ -43,7 +43,7 @@ module _ (m : ℕ) (lo : 1 ≤ m) (hi : m ≤ 4) where
     | isnt e ↦ simp e s
   ]
 
-  pub went-sound : {ds : List Deed} {ws vs : List ℕ} {rs : List Reply} (h : Went m ds ws rs vs) → Sound m ws → AllSound m (wentWords h) × Sound m vs
+  pub went-sound : {ds : List Event} {ws vs : List ℕ} {rs : List Reply} (h : Went m ds ws rs vs) → Sound m ws → AllSound m (wentWords h) × Sound m vs
   went-sound stays s = (tt, s)
   went-sound (formats T N {ws = ws} {us = us} e a h) s =
       let u : Sound m us = rw e (format-sound T N ws s) in

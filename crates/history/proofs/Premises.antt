@@ -22,7 +22,7 @@ use Rattle.forest.proofs.Trials.{steps}
 use Rattle.sound.specs.Checks.{checked, framed}
 use Rattle.sound.specs.Exact.{Exact}
 use Rattle.sound.proofs.CheckSteps.{exact}
-use Rattle.history.specs.Histories.{ask, least, Ran, ownOf, answersOf, Deed, format, key, at, Went, stays, formats, calls, moves, Unformatted, actsOf, repliesOf}
+use Rattle.history.specs.Histories.{ask, least, Ran, ownOf, answersOf, Event, format, key, at, Went, stays, formats, calls, moves, Unformatted, actsOf, repliesOf}
 use Rattle.history.proofs.AnyCalls.{any-calls}
 use Rattle.history.proofs.Fakes.{Outcome, Program, Keeps, Handed, Mover, KeepsMoves, start, start-formed, filed, on-nine}
 
@@ -70,8 +70,8 @@ on-key c p w = calls-by leafLeast (omega arith) c _ _ _ (record { pool = p; form
 
 -- public calls in two trees of a pool of one node: tree 1 is refused for room, tree 2 is not there, a format is refused for its length; 9 is taken at a cursor, which
 -- then stands nowhere; 5 is filed, sought and told by first
-abbrev deeds : List Deed
-deeds =
+abbrev events : List Event
+events =
     key (put 0 9 100) ∷ key (put 1 5 50) ∷ key (put 2 7 70) ∷ format 1 1 ∷ key (get 1 5) ∷ at to-remove on-nine ∷ at to-next on-nine ∷ key (put 1 5 60) ∷
     at (to-key 5) (cursorAt 1 []) ∷ at to-first (cursorAt 1 []) ∷ []
 
@@ -101,9 +101,9 @@ last-formed = run-formed leafLeast (omega arith) (omega arith) (put 1 5 60 ∷ [
 abbrev told : List Reply
 told = Nothing ∷ Refused NoRoom ∷ Refused NoTree ∷ Refused NoFormat ∷ Nothing ∷ Value 100 ∷ Refused NoPlace ∷ Nothing ∷ Value 60 ∷ Pair 5 60 ∷ []
 
-pub some-deeds : Went leafLeast deeds (encode (fresh 2 1)) told (encode last)
+pub some-events : Went leafLeast events (encode (fresh 2 1)) told (encode last)
 unfolding steps formatWords formatAnswer
-some-deeds =
+some-events =
     calls (on-key (put 0 9 100) (fresh 2 1) fresh-two)
     (calls (on-key (put 1 5 50) one-filed one-formed)
     (calls (on-key (put 2 7 70) one-filed one-formed)
@@ -116,20 +116,20 @@ some-deeds =
     (moves (on-pool to-first (cursorAt 1 []) last last-formed)
     stays)))))))))
 
-pub none-formats : Unformatted deeds told
+pub none-formats : Unformatted events told
 none-formats = (refl, tt)
 
 -- what they count as, and what demand 3 keeps of it for each tree
 pub some-acts :
-    (ownOf 0 (actsOf deeds (fresh 2 1)) (repliesOf deeds told (fresh 2 1)) ≡ ask (put 0 9 100) ∷ ask (remove 0 9) ∷ []) ×
-    (ownOf 1 (actsOf deeds (fresh 2 1)) (repliesOf deeds told (fresh 2 1)) ≡ ask (get 1 5) ∷ ask (put 1 5 60) ∷ ask (get 1 5) ∷ least 1 ∷ []) ×
-    (answersOf 1 (actsOf deeds (fresh 2 1)) (repliesOf deeds told (fresh 2 1)) ≡ Nothing ∷ Nothing ∷ Value 60 ∷ Pair 5 60 ∷ [])
+    (ownOf 0 (actsOf events (fresh 2 1)) (repliesOf events told (fresh 2 1)) ≡ ask (put 0 9 100) ∷ ask (remove 0 9) ∷ []) ×
+    (ownOf 1 (actsOf events (fresh 2 1)) (repliesOf events told (fresh 2 1)) ≡ ask (get 1 5) ∷ ask (put 1 5 60) ∷ ask (get 1 5) ∷ least 1 ∷ []) ×
+    (answersOf 1 (actsOf events (fresh 2 1)) (repliesOf events told (fresh 2 1)) ≡ Nothing ∷ Nothing ∷ Value 60 ∷ Pair 5 60 ∷ [])
 unfolding steps
 some-acts = (refl, refl, refl)
 
 -- a history, then
-pub some-history : Ran leafLeast (actsOf deeds (fresh 2 1)) (encode (fresh 2 1)) (encode last) (repliesOf deeds told (fresh 2 1))
-some-history = any-calls leafLeast (omega arith) (omega arith) some-deeds none-formats (fresh 2 1) fresh-two refl
+pub some-history : Ran leafLeast (actsOf events (fresh 2 1)) (encode (fresh 2 1)) (encode last) (repliesOf events told (fresh 2 1))
+some-history = any-calls leafLeast (omega arith) (omega arith) some-events none-formats (fresh 2 1) fresh-two refl
 
 -- sound words; and words that are no pool: refused there, then formatted
 abbrev pub start-sound : Sound leafLeast (encode start)

@@ -25,10 +25,10 @@ use Rattle.forest.proofs.TreeLaws.{none-empty, lands}
 use Rattle.forest.proofs.PoolLaws.{same-trees}
 use Rattle.forest.proofs.CallLaws.{held-kept}
 use Rattle.forest.proofs.CountLaws.{length-pad}
-use Rattle.forest.proofs.CursorLaws.{pair-at, leaves-joined, nth-lt, runs-path}
-use Rattle.forest.proofs.StandLaws.{cursor-back, stands-parts}
+use Rattle.forest.proofs.CursorLaws.{pair-at, leaves-joined, nth-lt}
 use Rattle.forest.proofs.CursorCalls.{spot-position, move-done, move-refused}
 use Rattle.forest.proofs.MoveLaws.{row, spotIn, rank-at}
+use Rattle.forest.proofs.RemoveLaws.{stays}
 use Rattle.history.specs.Holdings.{Whole}
 
 -- a spot on a pair is the spot of its position
@@ -103,12 +103,7 @@ whole-at t path = record { nodes = length-pad mostLevels (map (λ (q : ℕ × �
 
 -- two whole cursors that stand at the same spot of a tree are the same
 pub one-cursor : (t : Tree) (c d : Cursor) → Whole c → Whole d → d .tree ≡ c .tree → stands t c ≡ true → stands t d ≡ true → spotOf t (pathIn d) ≡ spotOf t (pathIn c) → d ≡ c
-one-cursor t c d a b e s z q = sym (back d b z) ∙ (λ i. cursorAt (e i) (pathOf t (q i))) ∙ back c a s
-  where
-    back : (c : Cursor) → Whole c → stands t c ≡ true → cursorAt (c .tree) (pathOf t (spotOf t (pathIn c))) ≡ c
-    back c w s =
-        let o = stands-parts t c s in
-        ap (cursorAt (c .tree)) (runs-path t (pathIn c) (o .1)) ∙ cursor-back c (w .nodes) (w .places) (o .0)
+one-cursor t c d a b e s z q = sym (stays t d (b .nodes) (b .places) z) ∙ (λ i. cursorAt (e i) (pathOf t (q i))) ∙ stays t c (a .nodes) (a .places) s
 
 -- what a move that is done answers is no refusal
 told-kept : (o : Option Item) → kept (told o) ≡ true

@@ -114,29 +114,29 @@ pub record Independent (m t : ℕ) (ws : List ℕ) (cs : List Act) (vs : List �
 -- Any public calls
 
 -- a public call that may write or that reads a cursor
-pub data Deed : Type 0 where
-  format : ℕ → ℕ → Deed
-  key : Call → Deed
-  at : Move → Cursor → Deed
+pub data Event : Type 0 where
+  format : ℕ → ℕ → Event
+  key : Call → Event
+  at : Move → Cursor → Event
 
--- deeds made in this order: the words before, the answers, the words after
-pub data Went (m : ℕ) : List Deed → List ℕ → List Reply → List ℕ → Type 0 where
+-- events in this order: the words before, the answers, the words after
+pub data Went (m : ℕ) : List Event → List ℕ → List Reply → List ℕ → Type 0 where
   stays : {ws : List ℕ} → Went m [] ws [] ws
-  formats : (T N : ℕ) {ds : List Deed} {ws us vs : List ℕ} {r : Reply} {rs : List Reply} →
+  formats : (T N : ℕ) {ds : List Event} {ws us vs : List ℕ} {r : Reply} {rs : List Reply} →
       us ≡ formatWords T N ws → r ≡ formatAnswer T N ws → Went m ds us rs vs → Went m (format T N ∷ ds) ws (r ∷ rs) vs
-  calls : {c : Call} {ds : List Deed} {ws us vs : List ℕ} {r : Reply} {rs : List Reply} → Calls m c ws us r → Went m ds us rs vs → Went m (key c ∷ ds) ws (r ∷ rs) vs
-  moves : {v : Move} {c d : Cursor} {ds : List Deed} {ws us vs : List ℕ} {r : Reply} {rs : List Reply} →
+  calls : {c : Call} {ds : List Event} {ws us vs : List ℕ} {r : Reply} {rs : List Reply} → Calls m c ws us r → Went m ds us rs vs → Went m (key c ∷ ds) ws (r ∷ rs) vs
+  moves : {v : Move} {c d : Cursor} {ds : List Event} {ws us vs : List ℕ} {r : Reply} {rs : List Reply} →
       Moves m v c ws us r d → Went m ds us rs vs → Went m (at v c ∷ ds) ws (r ∷ rs) vs
 
 -- the words after each of them
-abbrev pub wentWords : {m : ℕ} {ds : List Deed} {ws vs : List ℕ} {rs : List Reply} → Went m ds ws rs vs → List (List ℕ)
+abbrev pub wentWords : {m : ℕ} {ds : List Event} {ws vs : List ℕ} {rs : List Reply} → Went m ds ws rs vs → List (List ℕ)
 wentWords stays = []
 wentWords (formats T N {us = us} e a h) = us ∷ wentWords h
 wentWords (calls {us = us} k h) = us ∷ wentWords h
 wentWords (moves {us = us} k h) = us ∷ wentWords h
 
 -- no format among them is done
-abbrev pub Unformatted : List Deed → List Reply → Type 0
+abbrev pub Unformatted : List Event → List Reply → Type 0
 Unformatted [] rs = Unit {0}
 Unformatted (d ∷ ds) [] = Unit {0}
 Unformatted (format T N ∷ ds) (r ∷ rs) = (kept r ≡ false) × Unformatted ds rs
@@ -145,11 +145,11 @@ Unformatted (at v c ∷ ds) (r ∷ rs) = Unformatted ds rs
 
 -- What they count as, computed
 
--- the pool after a deed
-abbrev pub deedPool : Deed → Pool → Pool
-deedPool (format T N) p = cond (formatted T N (length (encode p))) (fresh T N) p
-deedPool (key c) p = (call c p) .pool
-deedPool (at v c) p = (move v c p) .pool
+-- the pool after an event
+abbrev pub eventPool : Event → Pool → Pool
+eventPool (format T N) p = cond (formatted T N (length (encode p))) (fresh T N) p
+eventPool (key c) p = (call c p) .pool
+eventPool (at v c) p = (move v c p) .pool
 
 -- a remove at a cursor: of the key of the pair that it takes, if it is not refused and takes one
 abbrev pub taken : ℕ → Option Refusal → Option Item → Option Act
@@ -166,24 +166,24 @@ moveAct to-prev c p = none
 moveAct to-settled c p = none
 moveAct to-remove c p = taken (c .tree) (blocked to-remove c p) (pairAt (leaves (treeOf p (c .tree))) (spotOf (treeOf p (c .tree)) (pathIn c)))
 
--- and a deed
-abbrev pub deedAct : Deed → Pool → Option Act
-deedAct (format T N) p = none
-deedAct (key c) p = some (ask c)
-deedAct (at v c) p = moveAct v c p
+-- and an event
+abbrev pub eventAct : Event → Pool → Option Act
+eventAct (format T N) p = none
+eventAct (key c) p = some (ask c)
+eventAct (at v c) p = moveAct v c p
 
 -- x comes first if the act counts
 abbrev pub countIn : {A : Type 0} → Option Act → (Act → A) → List A → List A
 countIn none x xs = xs
 countIn (some a) x xs = x a ∷ xs
 
--- the acts that deeds on a pool count cs
-abbrev pub actsOf : List Deed → Pool → List Act
+-- the acts that events on a pool count cs
+abbrev pub actsOf : List Event → Pool → List Act
 actsOf [] p = []
-actsOf (d ∷ ds) p = countIn (deedAct d p) (λ a. a) (actsOf ds (deedPool d p))
+actsOf (d ∷ ds) p = countIn (eventAct d p) (λ a. a) (actsOf ds (eventPool d p))
 
 -- and of the answers to all of them, those to the acts
-abbrev pub repliesOf : List Deed → List Reply → Pool → List Reply
+abbrev pub repliesOf : List Event → List Reply → Pool → List Reply
 repliesOf [] rs p = []
 repliesOf (d ∷ ds) [] p = []
-repliesOf (d ∷ ds) (r ∷ rs) p = countIn (deedAct d p) (λ a. r) (repliesOf ds rs (deedPool d p))
+repliesOf (d ∷ ds) (r ∷ rs) p = countIn (eventAct d p) (λ a. r) (repliesOf ds rs (eventPool d p))
