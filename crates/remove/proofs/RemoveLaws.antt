@@ -13,8 +13,8 @@ use Rattle.forest.specs.Lists.{sum, count, parent, offset, pad}
 use Rattle.forest.specs.Pairs.{Item, has, place}
 use Rattle.forest.specs.Rows.{Row, Tree, nums, sizes, itemsAt, dropRow, refresh}
 use Rattle.forest.specs.Trees.{numbers, leafOf, leafItems, dropUp, freedUp, lost, trim, trimmed, removeTree, freed}
-use Rattle.forest.specs.Pools.{Pool, WellFormed, encode, treeOf, withTree, root, rootAbove, pushAll, nodeWords, leafWords, remove, done, frees}
-use Rattle.forest.specs.Cursors.{Spot, on, leaves, Fits, Stands, pairAt, pathOf, pathUp, pathIn, cursorAt, spotOf, spotAt, blocked, move, moveFrom, leftPool, leftSpot, removed, removedSpot, to-remove, stands}
+use Rattle.forest.specs.Pools.{Pool, WellFormed, encode, treeOf, withTree, root, rootAbove, pushAll, nodeWords, leafWords, remove, done}
+use Rattle.forest.specs.Cursors.{Spot, on, leaves, Fits, Stands, pairAt, pathOf, pathUp, pathIn, cursorAt, spotOf, spotAt, blocked, move, moveFrom, leftPool, leftSpot, removed, removedSpot, to-remove}
 use Rattle.forest.specs.declared.Cursor.{Cursor}
 use Rattle.forest.proofs.ListLaws.{is, isnt, test, map-set}
 use Rattle.forest.proofs.TowerLaws.{tower-some}
