@@ -13,7 +13,9 @@ use Rattle.forest.specs.Sizes.{leafLeast}
 use Rattle.forest.specs.Pairs.{Item, Rising, has, place, lookup}
 use Rattle.forest.specs.Rows.{Row}
 use Rattle.forest.specs.Trees.{leafItems, need, getTree}
-use Rattle.forest.specs.Answers.{nothing, found-with, refusal, held}
+use Rattle.forest.specs.declared.Refusal.the-variants.{NoRoom}
+use Rattle.forest.specs.declared.Reply.the-variants.{Nothing, Value, Refused}
+use Rattle.forest.specs.Answers.{held}
 use Rattle.forest.specs.Pools
 use Rattle.forest.specs.Pools.{rootAbove}
 use Rattle.forest.proofs.ListLaws.{is, isnt, test, tri, less, same, more}
@@ -58,10 +60,8 @@ lookup-at k (x ∷ xs) r h = elim (tri k (x .0)) [
 
 -- The call: refused for want of nodes, or done
 module _ (p : Pools.Pool) (tree k v : ℕ) (there : tree < length (p .trees)) where
-  pub refused-call : length (p .free) < need 7 k (Pools.treeOf p tree) → Pools.call (Pools.put tree k v) p ≡ record { answer = refusal 4; pool = p }
-  refused-call h =
-      let z : Pools.refused (Pools.put tree k v) p ≡ 4 = refused-four (Pools.put tree k v) p there h in
-      call-refused (Pools.put tree k v) p (λ q. omega arith) ∙ rw z
+  pub refused-call : length (p .free) < need 7 k (Pools.treeOf p tree) → Pools.call (Pools.put tree k v) p ≡ record { answer = Refused NoRoom; pool = p }
+  refused-call h = call-refused (Pools.put tree k v) p NoRoom (refused-four (Pools.put tree k v) p there h)
 
   pub done-call : need 7 k (Pools.treeOf p tree) ≤ length (p .free) →
       Pools.call (Pools.put tree k v) p ≡ record { answer = held (getTree k (Pools.treeOf p tree)); pool = Pools.done (Pools.put tree k v) p }
@@ -75,7 +75,7 @@ module _ (p : Pools.Pool) (w : Pools.WellFormed leafLeast p) (tree k v : ℕ) (t
     unfolding need
     empty-need = rw is-empty
 
-    pub empty-held : held (getTree k (Pools.treeOf p tree)) ≡ nothing
+    pub empty-held : held (getTree k (Pools.treeOf p tree)) ≡ Nothing
     unfolding getTree
     empty-held = rw is-empty
 
@@ -111,7 +111,7 @@ module _ (p : Pools.Pool) (w : Pools.WellFormed leafLeast p) (tree k v : ℕ) (t
       unfolding need
       present-need = rw is-tree (simp h)
 
-      pub present-held : held (getTree k (Pools.treeOf p tree)) ≡ found-with 0 (getD (leafItems k L) e (0, 0) .1)
+      pub present-held : held (getTree k (Pools.treeOf p tree)) ≡ Value (getD (leafItems k L) e (0, 0) .1)
       unfolding getTree
       present-held = rw is-tree (ap held (lookup-at k (leafItems k L) rises h))
 
@@ -131,7 +131,7 @@ module _ (p : Pools.Pool) (w : Pools.WellFormed leafLeast p) (tree k v : ℕ) (t
       unfolding need
       absent-need = rw is-tree (simp h)
 
-      pub absent-held : held (getTree k (Pools.treeOf p tree)) ≡ nothing
+      pub absent-held : held (getTree k (Pools.treeOf p tree)) ≡ Nothing
       unfolding getTree
       absent-held = rw is-tree (ap held (lookup-has k (leafItems k L) h))
 

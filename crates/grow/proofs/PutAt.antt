@@ -10,7 +10,6 @@ use borrow.Author.Tests.{leb-true, leb-false}
 use Rattle.forest.specs.Pairs.{Item, has, place}
 use Rattle.forest.specs.Rows.{Row, Tree}
 use Rattle.forest.specs.Trees.{leafItems}
-use Rattle.forest.specs.Answers.{answerOf}
 use Rattle.forest.specs.Pools
 use Rattle.forest.specs.Cursors.{cursorAt, pathOf, seek, leaves}
 use Rattle.forest.specs.declared.Cursor.{Cursor}
@@ -119,7 +118,7 @@ module _ (ws : List ℕ) (t tree k v : ℕ) (y : Ready ws t tree) (q : 1 ≤ get
       }
         where
           both : (p : Pools.Pool) (o : Of ws p) (b : Bool) → has k (items p o) ≡ b →
-              (Pools.encode ((Pools.call (Pools.put tree k v) p) .pool) ≡ m) × ((Pools.call (Pools.put tree k v) p) .answer ≡ answerOf r)
+              (Pools.encode ((Pools.call (Pools.put tree k v) p) .pool) ≡ m) × ((Pools.call (Pools.put tree k v) p) .answer ≡ r)
           both p o true h =
               let u = is-at p o ∙ Calls.present-at p (o .formed) tree k v (in-pool p o) (L p o) (Rs p o) (tree-is p o) h in
               let n = Calls.present-need p (o .formed) tree k v (in-pool p o) (L p o) (Rs p o) (tree-is p o) h in
@@ -128,7 +127,7 @@ module _ (ws : List ℕ) (t tree k v : ℕ) (y : Ready ws t tree) (q : 1 ≤ get
                     sym (a .hit-words u ∙ replaced-is p o ∙ Calls.present-words p (o .formed) tree k v (in-pool p o) (L p o) (Rs p o) (tree-is p o) h),
                 ap (λ (d : Pools.Done). d .answer) d ∙
                     Calls.present-held p (o .formed) tree k v (in-pool p o) (L p o) (Rs p o) (tree-is p o) h ∙
-                    ap answerOf (sym (a .hit-reply u ∙ ap Value (value-is p o))),
+                    sym (a .hit-reply u ∙ ap Value (value-is p o)),
               )
           both p o false h =
               absurd (z (a .miss-reply (is-at p o ∙ Calls.absent-at p (o .formed) tree k v (in-pool p o) (L p o) (Rs p o) (tree-is p o) h)))
@@ -156,7 +155,7 @@ module _ (ws : List ℕ) (t tree k v : ℕ) (y : Ready ws t tree) (q : 1 ≤ get
         }
           where
             both : (p : Pools.Pool) (o : Of ws p) (b : Bool) → leb (Grows.leafNeed (s p o)) (length (p .free)) ≡ b →
-                (Pools.encode ((Pools.call (Pools.put tree k v) p) .pool) ≡ o′) × ((Pools.call (Pools.put tree k v) p) .answer ≡ answerOf r′)
+                (Pools.encode ((Pools.call (Pools.put tree k v) p) .pool) ≡ o′) × ((Pools.call (Pools.put tree k v) p) .answer ≡ r′)
             both p o true h =
                 let l : Grows.leafNeed (s p o) ≤ length (p .free) = leb-true _ _ h in
                 let x = f (s p o) (at p o) (land p o) in
@@ -165,7 +164,7 @@ module _ (ws : List ℕ) (t tree k v : ℕ) (y : Ready ws t tree) (q : 1 ≤ get
                   ap (λ (d : Pools.Done). Pools.encode (d .pool)) d ∙
                       sym (x .done-words l ∙ Calls.absent-words p (o .formed) tree k v (in-pool p o) (L p o) (Rs p o) (tree-is p o) (absent p o) l),
                   ap (λ (d : Pools.Done). d .answer) d ∙
-                      Calls.absent-held p (o .formed) tree k v (in-pool p o) (L p o) (Rs p o) (tree-is p o) (absent p o) ∙ ap answerOf (sym (x .done-reply l)),
+                      Calls.absent-held p (o .formed) tree k v (in-pool p o) (L p o) (Rs p o) (tree-is p o) (absent p o) ∙ sym (x .done-reply l),
                 )
             both p o false h =
                 let l : length (p .free) < Grows.leafNeed (s p o) = leb-false _ _ h in
@@ -173,7 +172,7 @@ module _ (ws : List ℕ) (t tree k v : ℕ) (y : Ready ws t tree) (q : 1 ≤ get
                 let n = Calls.absent-need p (o .formed) tree k v (in-pool p o) (L p o) (Rs p o) (tree-is p o) (absent p o) in
                 let d = Calls.refused-call p tree k v (in-pool p o) (rw n l) in (
                   ap (λ (d : Pools.Done). Pools.encode (d .pool)) d ∙ o .same ∙ sym (x .refused-words l),
-                  ap (λ (d : Pools.Done). d .answer) d ∙ ap answerOf (sym (x .refused-reply l)),
+                  ap (λ (d : Pools.Done). d .answer) d ∙ sym (x .refused-reply l),
                 )
 
         -- after a try to put it in the leaf as it is

@@ -8,7 +8,6 @@ use lib.Dec.{ltb, eqb}
 use Rattle.forest.specs.Sizes.{leafLeast}
 use Rattle.forest.specs.Lists.{insertAt}
 use Rattle.forest.specs.Pairs.{Item}
-use Rattle.forest.specs.Answers.{answerOf}
 use Rattle.forest.specs.Pools.{Pool, WellFormed, encode, leafWords, call}
 use Rattle.forest.specs.Pools as Pools
 use Rattle.forest.specs.declared.Reply.{Reply}
@@ -60,7 +59,7 @@ pub record Adds (s : Scene) (p tree : ℕ) (x : Item) (before after : List ℕ) 
 -- a put on sound words: those afterwards, and the answer
 pub record Puts (tree k v : ℕ) (before after : List ℕ) (r : Reply) : Type 0 where
   pub words : (p : Pool) → WellFormed leafLeast p → encode p ≡ before → encode ((call (Pools.put tree k v) p) .pool) ≡ after
-  pub answer : (p : Pool) → WellFormed leafLeast p → encode p ≡ before → (call (Pools.put tree k v) p) .answer ≡ answerOf r
+  pub answer : (p : Pool) → WellFormed leafLeast p → encode p ≡ before → (call (Pools.put tree k v) p) .answer ≡ r
 
 -- sound words, and a tree that is empty
 pub record Empty (ws : List ℕ) (t tree : ℕ) : Type 0 where

@@ -2,3 +2,4 @@ pub mod Values
 pub mod Gating
 pub mod Promising
 pub mod Removing
+pub mod Settled

@@ -1,7 +1,7 @@
 -- PROOFS. Taking out keeps the promises of remove by key and remove at a cursor
 use mathlib.Core.Path.{_≡_, refl, sym, ap, _∙_, subst}
 use mathlib.Core.List.{List, [], _∷_}
-use mathlib.Core.Bool.{false, true≢false}
+use mathlib.Core.Bool.{false}
 use mathlib.Core.Option.{Option, none, some}
 use Prim.Native.Nat.{ℕ, _+_, _≤_, _<_}
 use native.Mathlib.Omega.{arith}
@@ -12,9 +12,8 @@ use Rattle.forest.specs.Pairs.{Item, has, lookup}
 use Rattle.forest.specs.Trees.{pairs, getTree}
 use Rattle.forest.specs.Pools.{Pool, WellFormed, encode, treeOf, remove, call}
 use Rattle.forest.specs.Cursors.{Spot, off, on, pairAt, leaves, seek, cursorAt, spotOf, pathIn, to-remove, move}
-use Rattle.forest.specs.Answers.{nothing, found-with, held}
+use Rattle.forest.specs.Answers.{held}
 use Rattle.forest.specs.Promises.{Calls, Moves}
-use Rattle.forest.specs.declared.Answer.{Answer}
 use Rattle.forest.specs.declared.Cursor.{Cursor}
 use Rattle.forest.specs.declared.Reply.the-variants as reply
 use Rattle.forest.proofs.ListLaws.{is, isnt, test}
@@ -70,7 +69,7 @@ module _ (ws : List ℕ) (t : ℕ) (c : Cursor) (y : Ready ws t (c .tree)) (z : 
         on-pair p (spotOf (treeOf p (c .tree)) (pathIn c)) (k, v) (tree-there ws t (c .tree) y p (of ws p w b)) (own-at ws c z p (of ws p w b)) (pair-there k v e p (of ws p w b));
   }
 
-  pub removed-moves : (k v : ℕ) → l ≡ Pair k v → (vs : List ℕ) (d : Cursor) → Removes ws vs c d → Moves leafLeast to-remove c ws vs (found-with 0 v) d
+  pub removed-moves : (k v : ℕ) → l ≡ Pair k v → (vs : List ℕ) (d : Cursor) → Removes ws vs c d → Moves leafLeast to-remove c ws vs (reply.Value v) d
   removed-moves k v e vs d r = record {
     sound-words = r .words;
     sound-answer = λ p w b.
@@ -81,9 +80,9 @@ module _ (ws : List ℕ) (t : ℕ) (c : Cursor) (y : Ready ws t (c .tree)) (z : 
     unsound-cursor = λ n. absurd (n (y .sound));
   }
 
-  pub nothing-moves : length (c .nodes) ≡ mostLevels → length (c .places) ≡ mostLevels → l ≡ Nothing → Moves leafLeast to-remove c ws ws nothing c
+  pub nothing-moves : length (c .nodes) ≡ mostLevels → length (c .places) ≡ mostLevels → l ≡ Nothing → Moves leafLeast to-remove c ws ws reply.Nothing c
   nothing-moves ln lp e =
-      let r : (p : Pool) → Of ws p → move to-remove c p ≡ record { answer = nothing; cursor = c; pool = p } =
+      let r : (p : Pool) → Of ws p → move to-remove c p ≡ record { answer = reply.Nothing; cursor = c; pool = p } =
       λ p o. remove-none leafLeast (omega arith) (omega arith) p (o .formed) c ln lp (free-reads ws t c y z to-remove refl p o) (none-there e p o) in
       record {
         sound-words = λ p w b. ap (λ q. encode (q .pool)) (r p (of ws p w b)) ∙ b;
@@ -106,9 +105,9 @@ has-none k (u ∷ xs) e = elim (test (eqb k (u .0))) [
   | isnt f ↦ simp f (has-none k xs (simp f at e))
 ]
 
-held-none : (o : Option ℕ) → held o ≡ nothing → o ≡ none
+held-none : (o : Option ℕ) → held o ≡ reply.Nothing → o ≡ none
 held-none none e = refl
-held-none (some v) e = absurd (true≢false (ap (λ (a : Answer). a .found) e))
+held-none (some v) e = absurd (let z : _≡_ {A = ℕ} 0 1 = cc in omega arith)
 
 module _ (ws : List ℕ) (t tree k : ℕ) (y : Ready ws t tree) (l : Look) (o : Looks k ws tree l) where
   abbrev d : Cursor
@@ -126,7 +125,7 @@ module _ (ws : List ℕ) (t tree k : ℕ) (y : Ready ws t tree) (l : Look) (o : 
   ask-found : (h v : ℕ) → l ≡ Pair h v → AskRemove ws t d
   ask-found h v e = ask-remove ws t d ready-there stands-there l (o .sees) h v e
 
-  pub removed-calls : (h v : ℕ) → l ≡ Pair h v → h ≡ k → (vs : List ℕ) → RemovesKey ws vs tree k → Calls leafLeast (remove tree k) ws vs (found-with 0 v)
+  pub removed-calls : (h v : ℕ) → l ≡ Pair h v → h ≡ k → (vs : List ℕ) → RemovesKey ws vs tree k → Calls leafLeast (remove tree k) ws vs (reply.Value v)
   removed-calls h v e i vs q =
       let e′ : l ≡ Pair k v = e ∙ ap (λ (n : ℕ). Pair n v) i in
       let goes : (p : Pool) (w : WellFormed leafLeast p) → encode p ≡ ws → Gone p d (k, v) (move to-remove d p) =
@@ -139,14 +138,14 @@ module _ (ws : List ℕ) (t tree k : ℕ) (y : Ready ws t tree) (l : Look) (o : 
         unsound-answer = λ n. absurd (n (y .sound));
       }
 
-  absent : heldAt l k ≡ reply.Nothing → (p : Pool) → Of ws p → call (remove tree k) p ≡ record { answer = nothing; pool = p }
+  absent : heldAt l k ≡ reply.Nothing → (p : Pool) → Of ws p → call (remove tree k) p ≡ record { answer = reply.Nothing; pool = p }
   absent e p f =
       let good = good-at leafLeast (p .trees) tree (f .formed .good) in
       let a : getTree k (treeOf p tree) ≡ none = held-none (getTree k (treeOf p tree)) (seek-held ws t (cursorAt tree []) y k d l reply.Nothing (o .goes) (o .sees) (sym e) p f) in
       let b : lookup k (pairs (treeOf p tree)) ≡ none = sym (pairs-get leafLeast 7 k (omega arith) (treeOf p tree) good) ∙ a in
       remove-absent leafLeast (omega arith) tree k p (f .formed) (tree-there ws t tree y p f) (has-none k (pairs (treeOf p tree)) b)
 
-  pub absent-calls : heldAt l k ≡ reply.Nothing → Calls leafLeast (remove tree k) ws ws nothing
+  pub absent-calls : heldAt l k ≡ reply.Nothing → Calls leafLeast (remove tree k) ws ws reply.Nothing
   absent-calls e = record {
     sound-words = λ p w b. ap (λ c. encode (c .pool)) (absent e p (of ws p w b)) ∙ b;
     sound-answer = λ p w b. ap (λ c. c .answer) (absent e p (of ws p w b));
@@ -159,7 +158,7 @@ module _ (ws : List ℕ) (t tree k r : ℕ) (y : Ready ws t tree) (w : r ≡ get
   root-word : r ≡ getD ws (1 + tree) 0
   root-word = let z : 1 + tree ≡ tree + 1 = omega arith in rw z w
 
-  pub empty-calls : r ≡ 0 → Calls leafLeast (remove tree k) ws ws nothing
+  pub empty-calls : r ≡ 0 → Calls leafLeast (remove tree k) ws ws reply.Nothing
   empty-calls z = absent-calls ws t tree k y Nothing (looks-empty ws t tree y k (sym root-word ∙ z)) refl
 
   pub root-some : (r ≡ 0 → ⊥) → 1 ≤ getD ws (1 + tree) 0

@@ -10,7 +10,7 @@ use Rattle.forest.specs.Pairs.{Item, Rising, lookup, place}
 use Rattle.forest.specs.Rows.{Tree, Good}
 use Rattle.forest.specs.Trees.{getTree, leafItems}
 use Rattle.forest.specs.Cursors.{leaves, pairAt, seek}
-use Rattle.forest.specs.Answers.{answerOf, held}
+use Rattle.forest.specs.Answers.{held}
 use Rattle.forest.proofs.ListLaws.{tri, less, same, more}
 use Rattle.forest.proofs.PairLaws.{above-trans, lookup-above}
 use Rattle.forest.proofs.TowerLaws.{tower-some}
@@ -18,7 +18,7 @@ use Rattle.forest.proofs.TreeLaws.{lands}
 use Rattle.path.specs.Cores.{lookOf}
 use Rattle.map.specs.Gates.{heldAt}
 
-held-place : (k : ℕ) (xs : List Item) → Rising xs → answerOf (heldAt (lookOf (getElem? xs (place k xs))) k) ≡ held (lookup k xs)
+held-place : (k : ℕ) (xs : List Item) → Rising xs → heldAt (lookOf (getElem? xs (place k xs))) k ≡ held (lookup k xs)
 held-place k [] r = refl
 held-place k (x ∷ xs) r = elim (tri (x .0) k) [
   | less h ↦ simp (lt-ltb (x .0) k h, ne-eqb k (x .0) (omega arith)) (held-place k xs (r .1))
@@ -26,7 +26,7 @@ held-place k (x ∷ xs) r = elim (tri (x .0) k) [
   | more h ↦ simp (le-ltb (x .0) k (omega arith), ne-eqb k (x .0) (omega arith), ne-eqb (x .0) k (omega arith), lookup-above k xs (above-trans k (x .0) xs h (r .0)))
 ]
 
-pub held-tree : (k : ℕ) (t : Tree) → Good leafLeast 7 t → answerOf (heldAt (lookOf (pairAt (leaves t) (seek k (leaves t)))) k) ≡ held (getTree k t)
+pub held-tree : (k : ℕ) (t : Tree) → Good leafLeast 7 t → heldAt (lookOf (pairAt (leaves t) (seek k (leaves t)))) k ≡ held (getTree k t)
 unfolding getTree
 held-tree k [] g = refl
 held-tree k (L ∷ Rs) g =

@@ -2,7 +2,6 @@
 // Behind each stands the call for words that are known to be sound, `sound_get` behind `get`.
 ghost use mathlib.Core.Path.{_≡_};
 ghost use Rattle.forest.specs.Sizes.{leafLeast};
-ghost use Rattle.forest.specs.Answers.{answerOf};
 ghost use Rattle.forest.specs.Pools.{Sound, get, put, remove};
 ghost use Rattle.forest.specs.Cursors.{to-first, to-key, to-next, to-prev, to-settled, to-remove};
 ghost use Rattle.forest.specs.Promises.{Calls, Moves};
@@ -80,7 +79,7 @@ pub fn sound_stands(ws: &[u32], at: Cursor) -> bool
 // The value of a key.
 pub fn sound_get(ws: &[u32], tree: u32, key: u32) -> Reply
     requires { ⌜ Sound leafLeast (now ws) ⌝ }
-    ensures { λ r. ⌜ Calls leafLeast (get tree key) (now (ws .entry)) (now (ws .entry)) (answerOf r) ⌝ }
+    ensures { λ r. ⌜ Calls leafLeast (get tree key) (now (ws .entry)) (now (ws .entry)) r ⌝ }
 {
     match gate(ws, tree) {
         Pass::Shut(why) => Reply::Refused(why),
@@ -94,7 +93,7 @@ pub fn sound_get(ws: &[u32], tree: u32, key: u32) -> Reply
 // Files a value under a key, in place of an earlier one, which is told.
 pub fn sound_put(ws: &mut [u32], tree: u32, key: u32, value: u32) -> Reply
     requires { ⌜ Sound leafLeast (now ws) ⌝ }
-    ensures { λ r. ⌜ Calls leafLeast (put tree key value) (now (ws .entry)) (now (ws .exit)) (answerOf r) ⌝ }
+    ensures { λ r. ⌜ Calls leafLeast (put tree key value) (now (ws .entry)) (now (ws .exit)) r ⌝ }
 {
     match gate(ws, tree) {
         Pass::Shut(why) => Reply::Refused(why),
@@ -105,7 +104,7 @@ pub fn sound_put(ws: &mut [u32], tree: u32, key: u32, value: u32) -> Reply
 // Takes a key out, and tells its value.
 pub fn sound_remove(ws: &mut [u32], tree: u32, key: u32) -> Reply
     requires { ⌜ Sound leafLeast (now ws) ⌝ }
-    ensures { λ r. ⌜ Calls leafLeast (remove tree key) (now (ws .entry)) (now (ws .exit)) (answerOf r) ⌝ }
+    ensures { λ r. ⌜ Calls leafLeast (remove tree key) (now (ws .entry)) (now (ws .exit)) r ⌝ }
 {
     match gate(ws, tree) {
         Pass::Shut(why) => Reply::Refused(why),
@@ -132,7 +131,7 @@ pub fn sound_remove(ws: &mut [u32], tree: u32, key: u32) -> Reply
 // Go to a key and tell its value, or to where it would be put.
 pub fn sound_seek(ws: &[u32], at: Cursor, key: u32) -> Moved
     requires { ⌜ Sound leafLeast (now ws) ⌝ }
-    ensures { λ r. ⌜ Moves leafLeast (to-key key) at (now (ws .entry)) (now (ws .entry)) (answerOf (r .reply)) (r .cursor) ⌝ }
+    ensures { λ r. ⌜ Moves leafLeast (to-key key) at (now (ws .entry)) (now (ws .entry)) (r .reply) (r .cursor) ⌝ }
 {
     match gate(ws, at.tree) {
         Pass::Shut(why) => Moved {
@@ -152,7 +151,7 @@ pub fn sound_seek(ws: &[u32], at: Cursor, key: u32) -> Moved
 // Go to the first pair, and tell it.
 pub fn sound_first(ws: &[u32], at: Cursor) -> Moved
     requires { ⌜ Sound leafLeast (now ws) ⌝ }
-    ensures { λ r. ⌜ Moves leafLeast to-first at (now (ws .entry)) (now (ws .entry)) (answerOf (r .reply)) (r .cursor) ⌝ }
+    ensures { λ r. ⌜ Moves leafLeast to-first at (now (ws .entry)) (now (ws .entry)) (r .reply) (r .cursor) ⌝ }
 {
     match gate(ws, at.tree) {
         Pass::Shut(why) => Moved {
@@ -169,7 +168,7 @@ pub fn sound_first(ws: &[u32], at: Cursor) -> Moved
 // From one past a leaf's last entry go to the pair after it; nothing is told.
 pub fn sound_settle(ws: &[u32], at: Cursor) -> Moved
     requires { ⌜ Stood (now ws) at ⌝ }
-    ensures { λ r. ⌜ Moves leafLeast to-settled at (now (ws .entry)) (now (ws .entry)) (answerOf (r .reply)) (r .cursor) ⌝ }
+    ensures { λ r. ⌜ Moves leafLeast to-settled at (now (ws .entry)) (now (ws .entry)) (r .reply) (r .cursor) ⌝ }
 {
     let t = pool::tree_count(ws);
     let c = moves::normalize(ws, t, at);
@@ -182,7 +181,7 @@ pub fn sound_settle(ws: &[u32], at: Cursor) -> Moved
 // Go to the next pair, and tell it; after the last the cursor is off the end.
 pub fn sound_next(ws: &[u32], at: Cursor) -> Moved
     requires { ⌜ Stood (now ws) at ⌝ }
-    ensures { λ r. ⌜ Moves leafLeast to-next at (now (ws .entry)) (now (ws .entry)) (answerOf (r .reply)) (r .cursor) ⌝ }
+    ensures { λ r. ⌜ Moves leafLeast to-next at (now (ws .entry)) (now (ws .entry)) (r .reply) (r .cursor) ⌝ }
 {
     let t = pool::tree_count(ws);
     let c = moves::next(ws, t, at);
@@ -192,7 +191,7 @@ pub fn sound_next(ws: &[u32], at: Cursor) -> Moved
 // Go to the pair before, and tell it; on the first pair stay, and tell none.
 pub fn sound_prev(ws: &[u32], at: Cursor) -> Moved
     requires { ⌜ Stood (now ws) at ⌝ }
-    ensures { λ r. ⌜ Moves leafLeast to-prev at (now (ws .entry)) (now (ws .entry)) (answerOf (r .reply)) (r .cursor) ⌝ }
+    ensures { λ r. ⌜ Moves leafLeast to-prev at (now (ws .entry)) (now (ws .entry)) (r .reply) (r .cursor) ⌝ }
 {
     let t = pool::tree_count(ws);
     moves::prev(ws, t, at)
@@ -201,7 +200,7 @@ pub fn sound_prev(ws: &[u32], at: Cursor) -> Moved
 // Takes out the pair that the cursor is on, tells its value, and goes to the next; on no pair nothing happens.
 pub fn sound_remove_at(ws: &mut [u32], at: Cursor) -> Moved
     requires { ⌜ Stood (now ws) at ⌝ }
-    ensures { λ r. ⌜ Moves leafLeast to-remove at (now (ws .entry)) (now (ws .exit)) (answerOf (r .reply)) (r .cursor) ⌝ }
+    ensures { λ r. ⌜ Moves leafLeast to-remove at (now (ws .entry)) (now (ws .exit)) (r .reply) (r .cursor) ⌝ }
 {
     let t = pool::tree_count(ws);
     let look = path::look_at(ws, t, at);
@@ -222,7 +221,7 @@ pub fn sound_remove_at(ws: &mut [u32], at: Cursor) -> Moved
 
 // The value of a key.
 pub fn get(ws: &[u32], tree: u32, key: u32) -> Reply
-    ensures { λ r. ⌜ Calls leafLeast (get tree key) (now (ws .entry)) (now (ws .entry)) (answerOf r) ⌝ }
+    ensures { λ r. ⌜ Calls leafLeast (get tree key) (now (ws .entry)) (now (ws .entry)) r ⌝ }
 {
     if !sound::check(ws) {
         return Reply::Refused(Refusal::Unsound);
@@ -232,7 +231,7 @@ pub fn get(ws: &[u32], tree: u32, key: u32) -> Reply
 
 // Files a value under a key, in place of an earlier one, which is told.
 pub fn put(ws: &mut [u32], tree: u32, key: u32, value: u32) -> Reply
-    ensures { λ r. ⌜ Calls leafLeast (put tree key value) (now (ws .entry)) (now (ws .exit)) (answerOf r) ⌝ }
+    ensures { λ r. ⌜ Calls leafLeast (put tree key value) (now (ws .entry)) (now (ws .exit)) r ⌝ }
 {
     if !sound::check(ws) {
         return Reply::Refused(Refusal::Unsound);
@@ -242,7 +241,7 @@ pub fn put(ws: &mut [u32], tree: u32, key: u32, value: u32) -> Reply
 
 // Takes a key out, and tells its value.
 pub fn remove(ws: &mut [u32], tree: u32, key: u32) -> Reply
-    ensures { λ r. ⌜ Calls leafLeast (remove tree key) (now (ws .entry)) (now (ws .exit)) (answerOf r) ⌝ }
+    ensures { λ r. ⌜ Calls leafLeast (remove tree key) (now (ws .entry)) (now (ws .exit)) r ⌝ }
 {
     if !sound::check(ws) {
         return Reply::Refused(Refusal::Unsound);
@@ -252,7 +251,7 @@ pub fn remove(ws: &mut [u32], tree: u32, key: u32) -> Reply
 
 // Go to a key and tell its value, or to where it would be put.
 pub fn seek(ws: &[u32], at: Cursor, key: u32) -> Moved
-    ensures { λ r. ⌜ Moves leafLeast (to-key key) at (now (ws .entry)) (now (ws .entry)) (answerOf (r .reply)) (r .cursor) ⌝ }
+    ensures { λ r. ⌜ Moves leafLeast (to-key key) at (now (ws .entry)) (now (ws .entry)) (r .reply) (r .cursor) ⌝ }
 {
     if !sound::check(ws) {
         return Moved {
@@ -265,7 +264,7 @@ pub fn seek(ws: &[u32], at: Cursor, key: u32) -> Moved
 
 // Go to the first pair, and tell it.
 pub fn first(ws: &[u32], at: Cursor) -> Moved
-    ensures { λ r. ⌜ Moves leafLeast to-first at (now (ws .entry)) (now (ws .entry)) (answerOf (r .reply)) (r .cursor) ⌝ }
+    ensures { λ r. ⌜ Moves leafLeast to-first at (now (ws .entry)) (now (ws .entry)) (r .reply) (r .cursor) ⌝ }
 {
     if !sound::check(ws) {
         return Moved {
@@ -278,7 +277,7 @@ pub fn first(ws: &[u32], at: Cursor) -> Moved
 
 // From one past a leaf's last entry go to the pair after it; nothing is told.
 pub fn settle(ws: &[u32], at: Cursor) -> Moved
-    ensures { λ r. ⌜ Moves leafLeast to-settled at (now (ws .entry)) (now (ws .entry)) (answerOf (r .reply)) (r .cursor) ⌝ }
+    ensures { λ r. ⌜ Moves leafLeast to-settled at (now (ws .entry)) (now (ws .entry)) (r .reply) (r .cursor) ⌝ }
 {
     if !sound::check(ws) {
         return Moved {
@@ -297,7 +296,7 @@ pub fn settle(ws: &[u32], at: Cursor) -> Moved
 
 // Go to the next pair, and tell it; after the last the cursor is off the end.
 pub fn next(ws: &[u32], at: Cursor) -> Moved
-    ensures { λ r. ⌜ Moves leafLeast to-next at (now (ws .entry)) (now (ws .entry)) (answerOf (r .reply)) (r .cursor) ⌝ }
+    ensures { λ r. ⌜ Moves leafLeast to-next at (now (ws .entry)) (now (ws .entry)) (r .reply) (r .cursor) ⌝ }
 {
     if !sound::check(ws) {
         return Moved {
@@ -316,7 +315,7 @@ pub fn next(ws: &[u32], at: Cursor) -> Moved
 
 // Go to the pair before, and tell it; on the first pair stay, and tell none.
 pub fn prev(ws: &[u32], at: Cursor) -> Moved
-    ensures { λ r. ⌜ Moves leafLeast to-prev at (now (ws .entry)) (now (ws .entry)) (answerOf (r .reply)) (r .cursor) ⌝ }
+    ensures { λ r. ⌜ Moves leafLeast to-prev at (now (ws .entry)) (now (ws .entry)) (r .reply) (r .cursor) ⌝ }
 {
     if !sound::check(ws) {
         return Moved {
@@ -335,7 +334,7 @@ pub fn prev(ws: &[u32], at: Cursor) -> Moved
 
 // Takes out the pair that the cursor is on, tells its value, and goes to the next; on no pair nothing happens.
 pub fn remove_at(ws: &mut [u32], at: Cursor) -> Moved
-    ensures { λ r. ⌜ Moves leafLeast to-remove at (now (ws .entry)) (now (ws .exit)) (answerOf (r .reply)) (r .cursor) ⌝ }
+    ensures { λ r. ⌜ Moves leafLeast to-remove at (now (ws .entry)) (now (ws .exit)) (r .reply) (r .cursor) ⌝ }
 {
     if !sound::check(ws) {
         return Moved {

@@ -12,7 +12,7 @@ use Rattle.forest.specs.Pairs.{Item}
 use Rattle.forest.specs.Rows.{Row}
 use Rattle.forest.specs.Pools.{Pool, treeOf}
 use Rattle.forest.specs.Cursors.{Spot, off, on, leaves, pairAt, prev, prevPair, pathOf, cursorAt}
-use Rattle.forest.specs.Answers.{nothing, found-with, told, answerOf}
+use Rattle.forest.specs.Answers.{told}
 use Rattle.forest.specs.declared.Cursor.{Cursor}
 use Rattle.forest.specs.declared.Moved.{Moved}
 use Rattle.forest.specs.declared.Reply.the-variants as reply
@@ -31,14 +31,14 @@ use Rattle.moves.proofs.Moving.{moved-tree, moved-at}
 use Rattle.forest.proofs.CursorCalls.{fits-prev}
 
 -- a look as an answer
-pub pair-told : (o : Option Item) (k v : ℕ) → Pair k v ≡ lookOf o → found-with k v ≡ told o
+pub pair-told : (o : Option Item) (k v : ℕ) → Pair k v ≡ lookOf o → reply.Pair k v ≡ told o
 pair-told none k v e = absurd (let z : _≡_ {A = ℕ} 0 1 = cc in omega arith)
 pair-told (some x) k v e =
     let a : k ≡ x .0 = cc in
     let b : v ≡ x .1 = cc in
-    λ i. found-with (a i) (b i)
+    λ i. reply.Pair (a i) (b i)
 
-pub none-told : (o : Option Item) → Nothing ≡ lookOf o → nothing ≡ told o
+pub none-told : (o : Option Item) → Nothing ≡ lookOf o → reply.Nothing ≡ told o
 none-told none e = refl
 none-told (some x) e = absurd (let z : _≡_ {A = ℕ} 0 1 = cc in omega arith)
 
@@ -125,7 +125,7 @@ module _ (ws : List ℕ) (t : ℕ) (c : Cursor) (y : Ready ws t (c .tree)) where
 
   -- elsewhere it gives the pair that the moved cursor is on
   pub back-seen : atFirst c ≡ false → (d : Cursor) (l : Look) (r : Moved) → Steps prev ws c d → Sees ws d l → r .cursor ≡ d →
-      ((o : Option Item) → l ≡ lookOf o → answerOf (r .reply) ≡ told o) → Back ws c r
+      ((o : Option Item) → l ≡ lookOf o → r .reply ≡ told o) → Back ws c r
   back-seen e d l r x z q g = record {
     cursor = rw q x;
     pair = λ p s o a.

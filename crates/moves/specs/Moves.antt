@@ -10,7 +10,7 @@ use Rattle.forest.specs.Cursors.{cursorAt, Spot, off, on, leaves, pairAt, leafS
 use Rattle.forest.specs.declared.Cursor.{Cursor}
 use Rattle.forest.specs.Rows.{Row}
 use Rattle.forest.specs.Pools.{Pool, treeOf}
-use Rattle.forest.specs.Answers.{answerOf, told}
+use Rattle.forest.specs.Answers.{told}
 use Rattle.forest.specs.declared.Moved.{Moved}
 use Rattle.path.specs.declared.Way.{Way}
 use Rattle.path.specs.Ways.{Deep, descend, base}
@@ -61,9 +61,9 @@ prevLeaf L (on (suc j) e) = leafEnd L j
 -- the cursor, and the pair that it is on
 pub record Seen (ws : List ℕ) (c : Cursor) (r : Moved) : Type 0 where
   pub cursor : r .cursor ≡ c
-  pub pair : (p : Pool) (s : Spot) → Of ws p → At p c s → answerOf (r .reply) ≡ told (pairAt (leaves (treeOf p (c .tree))) s)
+  pub pair : (p : Pool) (s : Spot) → Of ws p → At p c s → r .reply ≡ told (pairAt (leaves (treeOf p (c .tree))) s)
 
 -- prev: the cursor, and the pair that it gives
 pub record Back (ws : List ℕ) (c : Cursor) (r : Moved) : Type 0 where
   pub cursor : Steps prev ws c (r .cursor)
-  pub pair : (p : Pool) (s : Spot) → Of ws p → At p c s → answerOf (r .reply) ≡ told (prevPair (leaves (treeOf p (c .tree))) s)
+  pub pair : (p : Pool) (s : Spot) → Of ws p → At p c s → r .reply ≡ told (prevPair (leaves (treeOf p (c .tree))) s)

@@ -1,7 +1,7 @@
 -- PROOFS. The words of a fresh pool, part by part, and what formatting answers
 use mathlib.Core.Path.{_≡_, refl, sym, ap, _∙_}
 use mathlib.Core.List.{List, [], _∷_, _++_, append-assoc, map, reverseAux}
-use mathlib.Core.Bool.{Bool, true, false, cond, _&&_, true≢false}
+use mathlib.Core.Bool.{true, false}
 use Prim.Native.Nat.{ℕ, zero, suc, _+_, _-_, _*_, _≤_, _<_}
 use native.Mathlib.Omega.{arith}
 use lib.ListN.{length, take, getD, set, replicate, length-append, length-replicate, length-set, replicate-append-replicate}
@@ -11,10 +11,11 @@ use borrow.Author.Tests.{le-leb, lt-leb, eqb-true, leb-true}
 use Rattle.forest.specs.Sizes.{mostTrees, mostNodes}
 use Rattle.forest.specs.Lists.{pad}
 use Rattle.forest.specs.Rows.{Tree}
-use Rattle.forest.specs.Answers.{nothing, refusal}
+use Rattle.forest.specs.declared.Refusal.the-variants.{NoFormat}
+use Rattle.forest.specs.declared.Reply.the-variants.{Nothing, Refused}
 use Rattle.forest.specs.Pools.{inTrees, nodeWords, nodesFrom, root, encode, fresh, fresh-stack, formatted, formatWords, formatAnswer, Sound}
 use Rattle.forest.proofs.CountLaws.{fresh-formed}
-use Rattle.forest.proofs.ListLaws.{is, isnt, test, four}
+use Rattle.forest.proofs.ListLaws.{four}
 use Rattle.pool.specs.Stores.{patched, down}
 use Rattle.pool.proofs.Patches.{copied-in, set-patched, begun, patched-length}
 
@@ -140,67 +141,46 @@ module _ (ws : List ℕ) (T N : ℕ) (long : length ws ≡ T + 17 * N + 3) where
 
 -- what the tests say
 module _ (T N len : ℕ) where
-  pub formatted-fits : eqb (formatted T N len) 0 ≡ true → len ≡ T + 17 * N + 3
+  pub formatted-fits : formatted T N len ≡ true → len ≡ T + 17 * N + 3
   unfolding formatted
-  formatted-fits h = elim (test (leb 1 T && (leb T mostTrees && (leb N mostNodes && eqb len (T + 17 * N + 3))))) [
-    | is e ↦ eqb-true len (T + 17 * N + 3) (four (leb 1 T) (leb T mostTrees) (leb N mostNodes) _ e .3)
-    | isnt e ↦ absurd (true≢false (sym h ∙ simp e))
-  ]
+  formatted-fits h = eqb-true len (T + 17 * N + 3) (four (leb 1 T) (leb T mostTrees) (leb N mostNodes) _ h .3)
 
-  pub few-trees : T ≡ 0 → eqb (formatted T N len) 0 ≡ false
+  pub few-trees : T ≡ 0 → formatted T N len ≡ false
   unfolding formatted
   few-trees h = simp (lt-leb 1 T (omega arith))
 
-  pub many-trees : 1 ≤ T → mostTrees < T → eqb (formatted T N len) 0 ≡ false
+  pub many-trees : 1 ≤ T → mostTrees < T → formatted T N len ≡ false
   unfolding formatted
   many-trees a h = simp (le-leb 1 T a, lt-leb T mostTrees h)
 
-  pub many-nodes : 1 ≤ T → T ≤ mostTrees → mostNodes < N → eqb (formatted T N len) 0 ≡ false
+  pub many-nodes : 1 ≤ T → T ≤ mostTrees → mostNodes < N → formatted T N len ≡ false
   unfolding formatted
   many-nodes a b h = simp (le-leb 1 T a, le-leb T mostTrees b, lt-leb N mostNodes h)
 
-  pub by-length : 1 ≤ T → T ≤ mostTrees → N ≤ mostNodes → eqb (formatted T N len) 0 ≡ eqb len (T + 17 * N + 3)
+  pub by-length : 1 ≤ T → T ≤ mostTrees → N ≤ mostNodes → formatted T N len ≡ eqb len (T + 17 * N + 3)
   unfolding formatted
-  by-length a b h = simp (le-leb 1 T a, le-leb T mostTrees b, le-leb N mostNodes h) (decided (eqb len (T + 17 * N + 3)))
-    where
-      decided : (b : Bool) → eqb (cond b 0 5) 0 ≡ b
-      decided true = refl
-      decided false = refl
-
-  -- the number is 0 or 5
-  pub refused-five : eqb (formatted T N len) 0 ≡ false → formatted T N len ≡ 5
-  unfolding formatted
-  refused-five h = five (leb 1 T && (leb T mostTrees && (leb N mostNodes && eqb len (T + 17 * N + 3)))) h
-    where
-      five : (b : Bool) → eqb (cond b 0 5) 0 ≡ false → _≡_ {A = ℕ} (cond b 0 5) 5
-      five true h = absurd (true≢false h)
-      five false h = refl
+  by-length a b h = simp (le-leb 1 T a, le-leb T mostTrees b, le-leb N mostNodes h)
 
 module _ (T N : ℕ) (ws : List ℕ) where
-  pub format-words : eqb (formatted T N (length ws)) 0 ≡ true → encode (fresh T N) ≡ formatWords T N ws
+  pub format-words : formatted T N (length ws) ≡ true → encode (fresh T N) ≡ formatWords T N ws
   unfolding formatWords
   format-words h = simp h
 
-  pub format-nothing : eqb (formatted T N (length ws)) 0 ≡ true → nothing ≡ formatAnswer T N ws
+  pub format-nothing : formatted T N (length ws) ≡ true → Nothing ≡ formatAnswer T N ws
   unfolding formatAnswer
-  format-nothing h = rw (eqb-true (formatted T N (length ws)) 0 h)
+  format-nothing h = simp h
 
-  pub format-kept : eqb (formatted T N (length ws)) 0 ≡ false → ws ≡ formatWords T N ws
+  pub format-kept : formatted T N (length ws) ≡ false → ws ≡ formatWords T N ws
   unfolding formatWords
   format-kept h = simp h
 
-  pub format-refused : eqb (formatted T N (length ws)) 0 ≡ false → refusal 5 ≡ formatAnswer T N ws
+  pub format-refused : formatted T N (length ws) ≡ false → Refused NoFormat ≡ formatAnswer T N ws
   unfolding formatAnswer
-  format-refused h = rw (refused-five T N (length ws) h)
+  format-refused h = simp h
 
 -- formatted words are sound, whatever the minimum of a leaf
-pub format-sound : (m T N : ℕ) (ws : List ℕ) → formatted T N (length ws) ≡ 0 → Sound m (formatWords T N ws)
+pub format-sound : (m T N : ℕ) (ws : List ℕ) → formatted T N (length ws) ≡ true → Sound m (formatWords T N ws)
 unfolding formatWords formatted
 format-sound m T N ws h =
-    let e : (leb 1 T && (leb T mostTrees && (leb N mostNodes && eqb (length ws) (T + 17 * N + 3)))) ≡ true = settled _ h in
-    let a = four (leb 1 T) (leb T mostTrees) (leb N mostNodes) _ e in
-    rw e (record { pool = fresh T N; formed = fresh-formed m T N (leb-true 1 T (a .0)) (leb-true T mostTrees (a .1)) (leb-true N mostNodes (a .2)); same = refl })
-  where
-    settled : (b : Bool) → _≡_ {A = ℕ} (cond b 0 5) 0 → b ≡ true
-    settled true h = refl
-    settled false h = absurd (omega arith)
+    let a = four (leb 1 T) (leb T mostTrees) (leb N mostNodes) _ h in
+    rw h (record { pool = fresh T N; formed = fresh-formed m T N (leb-true 1 T (a .0)) (leb-true T mostTrees (a .1)) (leb-true N mostNodes (a .2)); same = refl })

@@ -3,8 +3,6 @@ ghost use mathlib.Core.Path.{_≡_};
 ghost use mathlib.Core.Bool.{false};
 ghost use Prim.Native.Nat.{_+_, _-_, _*_, _≤_, _<_};
 ghost use lib.ListN.{length, getD, set, replicate};
-ghost use lib.Dec.{eqb};
-ghost use Rattle.forest.specs.Answers.{answerOf};
 ghost use Rattle.forest.specs.Pools.{formatted, formatWords, formatAnswer, encode, fresh};
 ghost use Rattle.pool.specs.Stores.{block, withBlock, patched, stackAt, freeCount, topNode, takenWords, freedWords, down};
 ghost use Rattle.pool.specs.Stores.{Placed, Stocked, Freeable};
@@ -114,7 +112,7 @@ pub fn free_node(ws: &mut [u32], t: usize, n: u32)
 
 // T and N are in range, and `long` is the length that they ask for.
 fn format_fits(long: usize, trees: u32, nodes: u32) -> bool
-    ensures { λ r. ⌜ r ≡ eqb (formatted trees nodes long) 0 ⌝ }
+    ensures { λ r. ⌜ r ≡ formatted trees nodes long ⌝ }
 {
     if trees == 0 {
         return false;
@@ -170,7 +168,7 @@ fn lay_out(ws: &mut [u32], trees: u32, nodes: u32)
 // Makes the words those of a fresh pool; refused, exactly, if T or N is out of range or the length is another.
 pub fn format(ws: &mut [u32], trees: u32, nodes: u32) -> forest::Reply
     ensures words { λ _. ⌜ now (ws .exit) ≡ formatWords trees nodes (now (ws .entry)) ⌝ }
-    ensures answer { λ r. ⌜ answerOf r ≡ formatAnswer trees nodes (now (ws .entry)) ⌝ }
+    ensures answer { λ r. ⌜ r ≡ formatAnswer trees nodes (now (ws .entry)) ⌝ }
 {
     if !format_fits(ws.len(), trees, nodes) {
         return forest::Reply::Refused(forest::Refusal::NoFormat);

@@ -4,9 +4,9 @@ ghost use Rattle.forest.specs.Sizes.{leafLeast};
 ghost use Rattle.forest.specs.Answers.{answerOf};
 ghost use Rattle.forest.specs.Pools.{Sound, get, put, remove, formatWords, formatAnswer};
 ghost use Rattle.forest.specs.Cursors.{to-first, to-key, to-next, to-prev, to-settled, to-remove};
-ghost use Rattle.forest.specs.Promises.{Calls, Moves};
 ghost use Rattle.sound.specs.Exact.{Exact};
 ghost use Rattle.map.specs.Gates.{Stood, Told};
+ghost use Rattle.map.specs.Numbers.{AnswersCall, AnswersMove};
 use forest::Answer;
 use forest::Cursor;
 
@@ -44,7 +44,7 @@ pub extern "C" fn recorder_check(words: &[u32]) -> bool
 #[no_mangle]
 pub extern "C" fn recorder_format(words: &mut [u32], trees: u32, nodes: u32) -> Answer
     ensures words { λ _. ⌜ now (words .exit) ≡ formatWords trees nodes (now (words .entry)) ⌝ }
-    ensures answer { λ r. ⌜ r ≡ formatAnswer trees nodes (now (words .entry)) ⌝ }
+    ensures answer { λ r. ⌜ r ≡ answerOf (formatAnswer trees nodes (now (words .entry))) ⌝ }
 {
     forest::numbered(pool::format(words, trees, nodes))
 }
@@ -52,7 +52,7 @@ pub extern "C" fn recorder_format(words: &mut [u32], trees: u32, nodes: u32) -> 
 // The value of a key.
 #[no_mangle]
 pub extern "C" fn recorder_get(words: &[u32], tree: u32, key: u32) -> Answer
-    ensures { λ r. ⌜ Calls leafLeast (get tree key) (now (words .entry)) (now (words .entry)) r ⌝ }
+    ensures { λ r. ⌜ AnswersCall (get tree key) (now (words .entry)) (now (words .entry)) r ⌝ }
 {
     forest::numbered(map::get(words, tree, key))
 }
@@ -60,7 +60,7 @@ pub extern "C" fn recorder_get(words: &[u32], tree: u32, key: u32) -> Answer
 // Files a value under a key, in place of an earlier one, which is told.
 #[no_mangle]
 pub extern "C" fn recorder_put(words: &mut [u32], tree: u32, key: u32, value: u32) -> Answer
-    ensures { λ r. ⌜ Calls leafLeast (put tree key value) (now (words .entry)) (now (words .exit)) r ⌝ }
+    ensures { λ r. ⌜ AnswersCall (put tree key value) (now (words .entry)) (now (words .exit)) r ⌝ }
 {
     forest::numbered(map::put(words, tree, key, value))
 }
@@ -68,7 +68,7 @@ pub extern "C" fn recorder_put(words: &mut [u32], tree: u32, key: u32, value: u3
 // Takes a key out, and tells its value.
 #[no_mangle]
 pub extern "C" fn recorder_remove(words: &mut [u32], tree: u32, key: u32) -> Answer
-    ensures { λ r. ⌜ Calls leafLeast (remove tree key) (now (words .entry)) (now (words .exit)) r ⌝ }
+    ensures { λ r. ⌜ AnswersCall (remove tree key) (now (words .entry)) (now (words .exit)) r ⌝ }
 {
     forest::numbered(map::remove(words, tree, key))
 }
@@ -76,7 +76,7 @@ pub extern "C" fn recorder_remove(words: &mut [u32], tree: u32, key: u32) -> Ans
 // Go to the first pair, and tell it.
 #[no_mangle]
 pub extern "C" fn recorder_first(words: &[u32], at: Cursor) -> Moved
-    ensures { λ r. ⌜ Moves leafLeast to-first at (now (words .entry)) (now (words .entry)) (r .answer) (r .cursor) ⌝ }
+    ensures { λ r. ⌜ AnswersMove to-first at (now (words .entry)) (now (words .entry)) (r .answer) (r .cursor) ⌝ }
 {
     numbered(map::first(words, at))
 }
@@ -84,7 +84,7 @@ pub extern "C" fn recorder_first(words: &[u32], at: Cursor) -> Moved
 // Go to a key and tell its value, or to where it would be put.
 #[no_mangle]
 pub extern "C" fn recorder_seek(words: &[u32], at: Cursor, key: u32) -> Moved
-    ensures { λ r. ⌜ Moves leafLeast (to-key key) at (now (words .entry)) (now (words .entry)) (r .answer) (r .cursor) ⌝ }
+    ensures { λ r. ⌜ AnswersMove (to-key key) at (now (words .entry)) (now (words .entry)) (r .answer) (r .cursor) ⌝ }
 {
     numbered(map::seek(words, at, key))
 }
@@ -92,7 +92,7 @@ pub extern "C" fn recorder_seek(words: &[u32], at: Cursor, key: u32) -> Moved
 // From one past a leaf's last entry go to the pair after it; nothing is told.
 #[no_mangle]
 pub extern "C" fn recorder_settle(words: &[u32], at: Cursor) -> Moved
-    ensures { λ r. ⌜ Moves leafLeast to-settled at (now (words .entry)) (now (words .entry)) (r .answer) (r .cursor) ⌝ }
+    ensures { λ r. ⌜ AnswersMove to-settled at (now (words .entry)) (now (words .entry)) (r .answer) (r .cursor) ⌝ }
 {
     numbered(map::settle(words, at))
 }
@@ -100,7 +100,7 @@ pub extern "C" fn recorder_settle(words: &[u32], at: Cursor) -> Moved
 // Go to the next pair, and tell it; after the last the cursor is off the end.
 #[no_mangle]
 pub extern "C" fn recorder_next(words: &[u32], at: Cursor) -> Moved
-    ensures { λ r. ⌜ Moves leafLeast to-next at (now (words .entry)) (now (words .entry)) (r .answer) (r .cursor) ⌝ }
+    ensures { λ r. ⌜ AnswersMove to-next at (now (words .entry)) (now (words .entry)) (r .answer) (r .cursor) ⌝ }
 {
     numbered(map::next(words, at))
 }
@@ -108,7 +108,7 @@ pub extern "C" fn recorder_next(words: &[u32], at: Cursor) -> Moved
 // Go to the pair before, and tell it; on the first pair stay, and tell none.
 #[no_mangle]
 pub extern "C" fn recorder_prev(words: &[u32], at: Cursor) -> Moved
-    ensures { λ r. ⌜ Moves leafLeast to-prev at (now (words .entry)) (now (words .entry)) (r .answer) (r .cursor) ⌝ }
+    ensures { λ r. ⌜ AnswersMove to-prev at (now (words .entry)) (now (words .entry)) (r .answer) (r .cursor) ⌝ }
 {
     numbered(map::prev(words, at))
 }
@@ -116,7 +116,7 @@ pub extern "C" fn recorder_prev(words: &[u32], at: Cursor) -> Moved
 // Takes out the pair that the cursor is on, tells its value, and goes to the next; on no pair nothing happens.
 #[no_mangle]
 pub extern "C" fn recorder_remove_at(words: &mut [u32], at: Cursor) -> Moved
-    ensures { λ r. ⌜ Moves leafLeast to-remove at (now (words .entry)) (now (words .exit)) (r .answer) (r .cursor) ⌝ }
+    ensures { λ r. ⌜ AnswersMove to-remove at (now (words .entry)) (now (words .exit)) (r .answer) (r .cursor) ⌝ }
 {
     numbered(map::remove_at(words, at))
 }
@@ -136,7 +136,7 @@ pub extern "C" fn recorder_sound_stands(words: &[u32], at: Cursor) -> bool
 #[no_mangle]
 pub extern "C" fn recorder_sound_get(words: &[u32], tree: u32, key: u32) -> Answer
     requires { ⌜ Sound leafLeast (now words) ⌝ }
-    ensures { λ r. ⌜ Calls leafLeast (get tree key) (now (words .entry)) (now (words .entry)) r ⌝ }
+    ensures { λ r. ⌜ AnswersCall (get tree key) (now (words .entry)) (now (words .entry)) r ⌝ }
 {
     forest::numbered(map::sound_get(words, tree, key))
 }
@@ -145,7 +145,7 @@ pub extern "C" fn recorder_sound_get(words: &[u32], tree: u32, key: u32) -> Answ
 #[no_mangle]
 pub extern "C" fn recorder_sound_put(words: &mut [u32], tree: u32, key: u32, value: u32) -> Answer
     requires { ⌜ Sound leafLeast (now words) ⌝ }
-    ensures { λ r. ⌜ Calls leafLeast (put tree key value) (now (words .entry)) (now (words .exit)) r ⌝ }
+    ensures { λ r. ⌜ AnswersCall (put tree key value) (now (words .entry)) (now (words .exit)) r ⌝ }
 {
     forest::numbered(map::sound_put(words, tree, key, value))
 }
@@ -154,7 +154,7 @@ pub extern "C" fn recorder_sound_put(words: &mut [u32], tree: u32, key: u32, val
 #[no_mangle]
 pub extern "C" fn recorder_sound_remove(words: &mut [u32], tree: u32, key: u32) -> Answer
     requires { ⌜ Sound leafLeast (now words) ⌝ }
-    ensures { λ r. ⌜ Calls leafLeast (remove tree key) (now (words .entry)) (now (words .exit)) r ⌝ }
+    ensures { λ r. ⌜ AnswersCall (remove tree key) (now (words .entry)) (now (words .exit)) r ⌝ }
 {
     forest::numbered(map::sound_remove(words, tree, key))
 }
@@ -163,7 +163,7 @@ pub extern "C" fn recorder_sound_remove(words: &mut [u32], tree: u32, key: u32) 
 #[no_mangle]
 pub extern "C" fn recorder_sound_first(words: &[u32], at: Cursor) -> Moved
     requires { ⌜ Sound leafLeast (now words) ⌝ }
-    ensures { λ r. ⌜ Moves leafLeast to-first at (now (words .entry)) (now (words .entry)) (r .answer) (r .cursor) ⌝ }
+    ensures { λ r. ⌜ AnswersMove to-first at (now (words .entry)) (now (words .entry)) (r .answer) (r .cursor) ⌝ }
 {
     numbered(map::sound_first(words, at))
 }
@@ -172,7 +172,7 @@ pub extern "C" fn recorder_sound_first(words: &[u32], at: Cursor) -> Moved
 #[no_mangle]
 pub extern "C" fn recorder_sound_seek(words: &[u32], at: Cursor, key: u32) -> Moved
     requires { ⌜ Sound leafLeast (now words) ⌝ }
-    ensures { λ r. ⌜ Moves leafLeast (to-key key) at (now (words .entry)) (now (words .entry)) (r .answer) (r .cursor) ⌝ }
+    ensures { λ r. ⌜ AnswersMove (to-key key) at (now (words .entry)) (now (words .entry)) (r .answer) (r .cursor) ⌝ }
 {
     numbered(map::sound_seek(words, at, key))
 }
@@ -181,7 +181,7 @@ pub extern "C" fn recorder_sound_seek(words: &[u32], at: Cursor, key: u32) -> Mo
 #[no_mangle]
 pub extern "C" fn recorder_sound_settle(words: &[u32], at: Cursor) -> Moved
     requires { ⌜ Stood (now words) at ⌝ }
-    ensures { λ r. ⌜ Moves leafLeast to-settled at (now (words .entry)) (now (words .entry)) (r .answer) (r .cursor) ⌝ }
+    ensures { λ r. ⌜ AnswersMove to-settled at (now (words .entry)) (now (words .entry)) (r .answer) (r .cursor) ⌝ }
 {
     numbered(map::sound_settle(words, at))
 }
@@ -190,7 +190,7 @@ pub extern "C" fn recorder_sound_settle(words: &[u32], at: Cursor) -> Moved
 #[no_mangle]
 pub extern "C" fn recorder_sound_next(words: &[u32], at: Cursor) -> Moved
     requires { ⌜ Stood (now words) at ⌝ }
-    ensures { λ r. ⌜ Moves leafLeast to-next at (now (words .entry)) (now (words .entry)) (r .answer) (r .cursor) ⌝ }
+    ensures { λ r. ⌜ AnswersMove to-next at (now (words .entry)) (now (words .entry)) (r .answer) (r .cursor) ⌝ }
 {
     numbered(map::sound_next(words, at))
 }
@@ -199,7 +199,7 @@ pub extern "C" fn recorder_sound_next(words: &[u32], at: Cursor) -> Moved
 #[no_mangle]
 pub extern "C" fn recorder_sound_prev(words: &[u32], at: Cursor) -> Moved
     requires { ⌜ Stood (now words) at ⌝ }
-    ensures { λ r. ⌜ Moves leafLeast to-prev at (now (words .entry)) (now (words .entry)) (r .answer) (r .cursor) ⌝ }
+    ensures { λ r. ⌜ AnswersMove to-prev at (now (words .entry)) (now (words .entry)) (r .answer) (r .cursor) ⌝ }
 {
     numbered(map::sound_prev(words, at))
 }
@@ -208,7 +208,7 @@ pub extern "C" fn recorder_sound_prev(words: &[u32], at: Cursor) -> Moved
 #[no_mangle]
 pub extern "C" fn recorder_sound_remove_at(words: &mut [u32], at: Cursor) -> Moved
     requires { ⌜ Stood (now words) at ⌝ }
-    ensures { λ r. ⌜ Moves leafLeast to-remove at (now (words .entry)) (now (words .exit)) (r .answer) (r .cursor) ⌝ }
+    ensures { λ r. ⌜ AnswersMove to-remove at (now (words .entry)) (now (words .exit)) (r .answer) (r .cursor) ⌝ }
 {
     numbered(map::sound_remove_at(words, at))
 }

@@ -2,7 +2,7 @@
 use mathlib.Core.Path.{_≡_, refl, sym, ap, _∙_, subst}
 use mathlib.Core.List.{List, [], _∷_, _++_, map}
 use mathlib.Core.Bool.{true, cond}
-use mathlib.Core.Option.{Option, some}
+use mathlib.Core.Option.{Option, none, some}
 use Prim.Native.Nat.{ℕ, zero, suc, _+_, _-_, _*_, _≤_, _<_}
 use native.Mathlib.Omega.{arith}
 use lib.ListN.{length, getD, set, take, drop, getElem?, length-map, List·getD-map}
@@ -13,8 +13,8 @@ use Rattle.forest.specs.Lists.{sum, count, parent, offset, pad}
 use Rattle.forest.specs.Pairs.{Item, has, place}
 use Rattle.forest.specs.Rows.{Row, Tree, nums, sizes, itemsAt, dropRow, refresh}
 use Rattle.forest.specs.Trees.{numbers, leafOf, leafItems, dropUp, freedUp, lost, trim, trimmed, removeTree, freed}
-use Rattle.forest.specs.Pools.{Pool, WellFormed, encode, treeOf, withTree, root, rootAbove, pushAll, nodeWords, leafWords, remove, done, frees}
-use Rattle.forest.specs.Cursors.{Spot, on, leaves, Fits, Stands, pairAt, pathOf, pathUp, pathIn, cursorAt, spotOf, spotAt, blocked, move, moveFrom, leftPool, leftSpot, removed, removedSpot, to-remove, stands}
+use Rattle.forest.specs.Pools.{Pool, WellFormed, encode, treeOf, withTree, root, rootAbove, pushAll, nodeWords, leafWords, remove, done}
+use Rattle.forest.specs.Cursors.{Spot, on, leaves, Fits, Stands, pairAt, pathOf, pathUp, pathIn, cursorAt, spotOf, spotAt, blocked, move, moveFrom, leftPool, leftSpot, removed, removedSpot, to-remove}
 use Rattle.forest.specs.declared.Cursor.{Cursor}
 use Rattle.forest.proofs.ListLaws.{is, isnt, test, map-set}
 use Rattle.forest.proofs.TowerLaws.{tower-some}
@@ -72,7 +72,7 @@ module _ (p : Pool) (c : Cursor) (formed : WellFormed 3 p) (b : Begun p c) where
       let q : pathIn c ≡ P p c formed b = ap pathIn (sym (b .cur)) ∙ path-in (c .tree) (P p c formed b) lp in
       rw (q, b .is) (spot-path 3 (b .L ∷ b .Rs) (on (b .j) (b .e)) (good p c formed b) (b .jl, omega (arith, e-in p c formed b)))
 
-  pub not-blocked : blocked to-remove c p ≡ 0
+  pub not-blocked : blocked to-remove c p ≡ none
   unfolding blocked
   not-blocked =
       let st : Stands (treeOf p (c .tree)) c = record { spot = on (b .j) (b .e); fits = fits; same = rw (b .is) (b .cur) } in

@@ -4,11 +4,11 @@ use mathlib.Core.List.{List, [], _++_}
 use mathlib.Core.Option.{Option, none, some}
 use Prim.Native.Nat.{ℕ, zero, suc, _-_, _≤_, min}
 use native.Mathlib.Omega.{arith}
-use lib.Dec.{ltb, eqb}
+use lib.Dec.{ltb}
 use lib.ListN.{length, take, drop, length-replicate}
-use borrow.Author.Tests.{ltb-true, ltb-false, eqb-true}
+use borrow.Author.Tests.{ltb-true, ltb-false}
 use Rattle.forest.specs.declared.Answer.{Answer}
-use Rattle.forest.specs.Answers.{refusal}
+use Rattle.forest.specs.Answers.{refusal, answerOf}
 use Rattle.forest.specs.Pools.{Call, fresh, formatted, formatWords, formatAnswer}
 use Rattle.forest.proofs.ListLaws.{test, is, isnt}
 use Rattle.forest.proofs.CountLaws.{encode-length}
@@ -27,8 +27,8 @@ use Rattle.requests.proofs.Whole.{run-replay}
 -- formatting keeps the number of words
 format-length : (T N : ℕ) (ws : List ℕ) → length (formatWords T N ws) ≡ length ws
 unfolding formatWords
-format-length T N ws = elim (test (eqb (formatted T N (length ws)) 0)) [
-  | is e ↦ simp e (encode-length (fresh T N) ∙ rw length-replicate (sym (format-in T N (length ws) (eqb-true _ _ e) .3)))
+format-length T N ws = elim (test (formatted T N (length ws))) [
+  | is e ↦ simp e (encode-length (fresh T N) ∙ rw length-replicate (sym (format-in T N (length ws) e .3)))
   | isnt e ↦ simp e
 ]
 
@@ -43,8 +43,8 @@ heeded : (o : Option Call) (ws : List ℕ) → Heeded o ws
 heeded none ws = record { words = ws; answer = refusal 6; heeds = (refl, refl); long = refl }
 heeded (some c) ws = record {
   words = (honest c ws) .words;
-  answer = (honest c ws) .answer;
-  heeds = honest-keeps c ws;
+  answer = answerOf ((honest c ws) .answer);
+  heeds = record { reply = (honest c ws) .answer; promise = honest-keeps c ws; numbered = refl };
   long = same-length c ws _ _ (honest-keeps c ws);
 }
 
@@ -63,7 +63,7 @@ judges Sizes b ws =
     let v = formatWords T N (take n ws) in
     record {
       words = v ++ drop n ws;
-      turn = afterFormat (sizedBy b) (formatAnswer T N (take n ws));
+      turn = afterFormat (sizedBy b) (answerOf (formatAnswer T N (take n ws)));
       judged = sizes-judged b ws v T N n _ _ refl refl refl (format-length T N (take n ws)) refl refl refl;
     }
 judges (Count words) b ws = record { words = ws; turn = afterCount words b; judged = (refl, refl) }

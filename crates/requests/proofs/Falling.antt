@@ -7,6 +7,8 @@ use lib.Dec.{leb, eqb}
 use lib.ListN.{length, take, drop}
 use borrow.Author.Tests.{leb-true}
 use Rattle.forest.specs.declared.Answer.{Answer}
+use Rattle.forest.specs.declared.Reply.{Reply}
+use Rattle.forest.specs.Answers.{answerOf}
 use Rattle.forest.specs.Pools.{formatWords, formatAnswer}
 use Rattle.forest.proofs.ListLaws.{test, is, isnt}
 use Rattle.requests.specs.declared.Stage.{Stage}
@@ -18,13 +20,13 @@ use Rattle.requests.specs.Turns.{sizedBy, wantsOf, stops, asking, afterK
 use Rattle.requests.proofs.Judging.{lent, back, behind}
 
 -- the pool's part is formatted: n words of s go out, and come back as v
-pub sizes-judged : (b s v : List ℕ) (T N n : ℕ) (a : Answer) (r : Turn) →
+pub sizes-judged : (b s v : List ℕ) (T N n : ℕ) (a : Reply) (r : Turn) →
     T ≡ wordAt b 0 → N ≡ wordAt b 4 → n ≡ min (sized T N) (length s) → length v ≡ length (take n s) →
-    v ≡ formatWords T N (take n s) → a ≡ formatAnswer T N (take n s) → r ≡ afterFormat (sized T N) a → Sized b s (v ++ drop n s) r
+    v ≡ formatWords T N (take n s) → a ≡ formatAnswer T N (take n s) → r ≡ afterFormat (sized T N) (answerOf a) → Sized b s (v ++ drop n s) r
 sizes-judged b s v T N n a r p q e k f g h =
     let l = lent s (sized T N) n e in
     record {
-      turn = rw (← p, ← q) (h ∙ ap (afterFormat (sized T N)) (g ∙ ap (formatAnswer T N) l));
+      turn = rw (← p, ← q) (h ∙ ap (λ (x : Reply). afterFormat (sized T N) (answerOf x)) (g ∙ ap (formatAnswer T N) l));
       words = rw (← p, ← q) (back s (sized T N) n e v k ∙ f ∙ ap (formatWords T N) l);
       others = rw (← p, ← q) (behind s (sized T N) n e v k);
     }
@@ -62,7 +64,7 @@ count-falls words b = elim (test (leb (wordAt b 0) mostRequests)) [
 
 judged-falls : (s : Stage) (b before after : List ℕ) (r : Turn) → Judged s b before after r → rank (r .stage) ≤ rank s - 1
 judged-falls Kind b before after r j = rw (j .0) (omega (arith, kind-falls b))
-judged-falls Sizes b before after r j = rw (j .turn) (omega (arith, format-falls (sizedBy b) (formatAnswer (wordAt b 0) (wordAt b 4) (take (sizedBy b) before))))
+judged-falls Sizes b before after r j = rw (j .turn) (omega (arith, format-falls (sizedBy b) (answerOf (formatAnswer (wordAt b 0) (wordAt b 4) (take (sizedBy b) before)))))
 judged-falls (Count words) b before after r j = rw (j .0) (omega (arith, count-falls words b))
 judged-falls (Request words more) b before after r j = rw (j .turn) (omega (arith, rank-asking words more))
 judged-falls Stopped b before after r j = rw (j .0) (omega arith)

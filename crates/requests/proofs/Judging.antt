@@ -8,11 +8,10 @@ use lib.ListN.{length, take, drop, length-take, length-append, length-drop, drop
 use lib.Seq.{take-all, take-at, drop-at}
 use borrow.Author.Tests.{eq-eqb, ne-eqb, le-leb, lt-leb, ltb-true, ltb-false}
 use Rattle.forest.proofs.ListLaws.{test, is, isnt}
-use Rattle.forest.specs.Sizes.{leafLeast}
 use Rattle.forest.specs.declared.Answer.{Answer}
 use Rattle.forest.specs.Answers.{refusal}
 use Rattle.forest.specs.Pools.{put, remove, get}
-use Rattle.forest.specs.Promises.{Calls}
+use Rattle.map.specs.Numbers.{AnswersCall}
 use Rattle.requests.specs.declared.Stage.the-variants.{Sizes, Count, Request, Stopped}
 use Rattle.requests.specs.declared.Said.the-variants.{Line}
 use Rattle.requests.specs.declared.Turn.{Turn}
@@ -49,15 +48,15 @@ unfolding afterFormat
 format-refused words a q = sym (rw (ne-eqb (a .number) 0 q))
 
 module _ (kind t k v : ℕ) (before after : List ℕ) (a : Answer) where
-  pub heeds-put : kind ≡ 1 → Calls leafLeast (put t k v) before after a → Heeds (asked kind t k v) before after a
+  pub heeds-put : kind ≡ 1 → AnswersCall (put t k v) before after a → Heeds (asked kind t k v) before after a
   unfolding asked
   heeds-put e h = rw (eq-eqb kind 1 e) h
 
-  pub heeds-remove : (kind ≡ 1 → ⊥) → kind ≡ 2 → Calls leafLeast (remove t k) before after a → Heeds (asked kind t k v) before after a
+  pub heeds-remove : (kind ≡ 1 → ⊥) → kind ≡ 2 → AnswersCall (remove t k) before after a → Heeds (asked kind t k v) before after a
   unfolding asked
   heeds-remove n e h = rw (ne-eqb kind 1 n, eq-eqb kind 2 e) h
 
-  pub heeds-get : (kind ≡ 1 → ⊥) → (kind ≡ 2 → ⊥) → kind ≡ 3 → Calls leafLeast (get t k) before after a → Heeds (asked kind t k v) before after a
+  pub heeds-get : (kind ≡ 1 → ⊥) → (kind ≡ 2 → ⊥) → kind ≡ 3 → AnswersCall (get t k) before after a → Heeds (asked kind t k v) before after a
   unfolding asked
   heeds-get n m e h = rw (ne-eqb kind 1 n, ne-eqb kind 2 m, eq-eqb kind 3 e) h
 

@@ -11,7 +11,7 @@ use borrow.Author.Tests.{ltb-true, ltb-false}
 use Rattle.forest.specs.declared.Answer.{Answer}
 use Rattle.forest.specs.Pools.{Call}
 use Rattle.forest.proofs.ListLaws.{test, is, isnt}
-use Rattle.history.proofs.Laws.{one-outcome}
+use Rattle.map.proofs.Settled.{one-answer}
 use Rattle.requests.specs.declared.Stage.{Stage}
 use Rattle.requests.specs.declared.Stage.the-variants.{Kind, Sizes, Count, Request, Stopped}
 use Rattle.requests.specs.declared.Said.the-variants.{Line}
@@ -25,7 +25,7 @@ parts n x y e f = sym (take-append-drop n x) ∙ rw (e, f) (take-append-drop n y
 
 one-heed : (o : Option Call) (before x y : List ℕ) (a b : Answer) → Heeds o before x a → Heeds o before y b → (x ≡ y) × (a ≡ b)
 one-heed none before x y a b h k = (h .0 ∙ sym (k .0), h .1 ∙ sym (k .1))
-one-heed (some c) before x y a b h k = one-outcome c before x y a b h k
+one-heed (some c) before x y a b h k = one-answer c before x y a b h k
 
 module _ (b before x y : List ℕ) (r q : Turn) where
   one-judged : (s : Stage) → Judged s b before x r → Judged s b before y q → (x ≡ y) × (r ≡ q)

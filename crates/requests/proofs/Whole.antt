@@ -1,22 +1,21 @@
 -- PROOFS. The whole delivery: a run from the first word on writes the replay of its bytes, and what stands after the last request makes no difference
 use mathlib.Core.Path.{_≡_, refl, sym, ap, _∙_}
 use mathlib.Core.List.{List, [], _∷_, _++_, append-assoc}
-use mathlib.Core.Bool.{true}
+use mathlib.Core.Bool.{true, false}
 use mathlib.Core.Option.{Option, none, some}
 use Prim.Native.Nat.{ℕ, zero, suc, _+_, _*_, _≤_, _<_, min}
 use native.Mathlib.Omega.{arith}
 use lib.Dec.{ltb, leb, eqb}
 use lib.ListN.{length, take, drop, length-take, length-drop, length-append, List·getD-append}
 use lib.Seq.{getD-take, getD-drop, drop-append-le}
-use borrow.Author.Tests.{ltb-true, ltb-false, leb-true, eqb-true, eqb-false, lt-ltb, le-ltb, eq-eqb, ne-eqb}
+use borrow.Author.Tests.{ltb-true, ltb-false, leb-true, lt-ltb, le-ltb}
 use Rattle.forest.specs.Sizes.{leafLeast}
 use Rattle.forest.specs.declared.Answer.{Answer}
-use Rattle.forest.specs.Answers.{refusal}
+use Rattle.forest.specs.Answers.{refusal, answerOf}
 use Rattle.forest.specs.Pools.{Pool, WellFormed, encode, Call, fresh, formatted, formatWords, formatAnswer}
 use Rattle.forest.proofs.ListLaws.{test, is, isnt}
 use Rattle.forest.proofs.CountLaws.{fresh-formed}
 use Rattle.forest.proofs.PoolLaws.{call-formed}
-use Rattle.pool.proofs.Fresh.{refused-five}
 use Rattle.history.proofs.Laws.{format-in}
 use Rattle.requests.specs.declared.Stage.{Stage}
 use Rattle.requests.specs.declared.Stage.the-variants.{Kind, Sizes, Count, Request, Stopped}
@@ -106,33 +105,27 @@ module _ (b : List ℕ) (p : Pool) (ws vs : List ℕ) (T N : ℕ) (l : room ≤ 
   taken : formatted T N (length (take (sized T N) ws)) ≡ formatted T N (sized T N)
   taken = rw length-take (format-room T N (length ws) l)
 
-  sizes-done : formatted T N (sized T N) ≡ 0 → TurnsTo Sizes b p vs (goes (Count (sized T N)))
+  sizes-done : formatted T N (sized T N) ≡ true → TurnsTo Sizes b p vs (goes (Count (sized T N)))
   unfolding pooled formatWords
   sizes-done e =
       let fits = format-in T N (sized T N) e in
-      let o : eqb (formatted T N (sized T N)) 0 ≡ true = eq-eqb _ 0 e in
       record {
         pool = fresh T N;
-        shows = record { formed = fresh-formed leafLeast T N (fits .0) (fits .1) (fits .2); same = sym (w ∙ rw (taken, o)) };
-        answers = rw (le-ltb (length b) 8 h, ← t, ← n, o);
+        shows = record { formed = fresh-formed leafLeast T N (fits .0) (fits .1) (fits .2); same = sym (w ∙ rw (taken, e)) };
+        answers = rw (le-ltb (length b) 8 h, ← t, ← n, e);
       }
 
-  sizes-refused : (formatted T N (sized T N) ≡ 0 → ⊥) → TurnsTo Sizes b p vs (stops 5)
+  sizes-refused : formatted T N (sized T N) ≡ false → TurnsTo Sizes b p vs (stops 5)
   unfolding pooled
   sizes-refused e = record {
     pool = p;
     shows = tt;
-    answers = rw (le-ltb (length b) 8 h, ← t, ← n, ne-eqb (formatted T N (sized T N)) 0 e);
+    answers = rw (le-ltb (length b) 8 h, ← t, ← n, e);
   }
 
-  sizes-goes : TurnsTo Sizes b p vs (afterFormat (sized T N) (formatAnswer T N (take (sized T N) ws)))
+  sizes-goes : TurnsTo Sizes b p vs (afterFormat (sized T N) (answerOf (formatAnswer T N (take (sized T N) ws))))
   unfolding afterFormat formatAnswer
-  sizes-goes = rw taken (elim (test (eqb (formatted T N (sized T N)) 0)) [
-    | is e ↦ simp e (sizes-done (eqb-true _ 0 e))
-    | isnt e ↦
-        let five = refused-five T N (sized T N) e in
-        simp five (sizes-refused (eqb-false _ 0 e))
-  ])
+  sizes-goes = rw taken (elim (test (formatted T N (sized T N))) [ is e ↦ simp e (sizes-done e) | isnt e ↦ simp e (sizes-refused e) ])
 
 -- the count
 rest-asking : (words n : ℕ) (b : List ℕ) (p : Pool) → rest (asking words n) b p ≡ answered n b p
@@ -162,8 +155,8 @@ record Heeded (o : Option Call) (words : ℕ) (vs : List ℕ) (p : Pool) (a : An
 heeded : (o : Option Call) (words : ℕ) (ws vs : List ℕ) (p : Pool) (a : Answer) → Shown words ws p → Heeds o (take words ws) (take words vs) a → Heeded o words vs p a
 heeded none words ws vs p a s h = record { answer = sym (h .1); shown = record { formed = s .formed; same = s .same ∙ sym (h .0) } }
 heeded (some c) words ws vs p a s h = record {
-  answer = h .sound-answer p (s .formed) (s .same);
-  shown = record { formed = call-formed leafLeast (omega arith) (omega arith) c p (s .formed); same = h .sound-words p (s .formed) (s .same) };
+  answer = ap answerOf (h .promise .sound-answer p (s .formed) (s .same)) ∙ sym (h .numbered);
+  shown = record { formed = call-formed leafLeast (omega arith) (omega arith) c p (s .formed); same = h .promise .sound-words p (s .formed) (s .same) };
 }
 
 request-read : (b : List ℕ) → request (take 16 b) ≡ request b

@@ -6,8 +6,8 @@ use Prim.Native.Nat.{ℕ, zero, suc, _+_, _*_}
 use lib.ListN.{length, drop, getD}
 use lib.Dec.{ltb, leb, eqb}
 use Rattle.forest.specs.declared.Answer.{Answer}
-use Rattle.forest.specs.Answers.{refusal}
-use Rattle.forest.specs.Pools.{Pool, Done, Call, put, remove, get, call, fresh, formatted}
+use Rattle.forest.specs.Answers.{refusal, answerOf}
+use Rattle.forest.specs.Pools.{Pool, Call, put, remove, get, call, fresh, formatted}
 use Rattle.requests.specs.Text.{lines}
 
 -- a delivery has at most so many requests
@@ -33,10 +33,15 @@ asked kind tree key value =
 abbrev pub request : List ℕ → Option Call
 request b = asked (wordAt b 0) (wordAt b 4) (wordAt b 8) (wordAt b 12)
 
--- a request on a pool: the call, and 6 where it is unknown
-abbrev pub heed : Option Call → Pool → Done
+-- what comes of a request: its answer, and the pool afterwards
+pub record Outcome : Type 0 where
+  pub answer : Answer
+  pub pool : Pool
+
+-- a request on a pool: the call, its reply in numbers, and 6 where it is unknown
+abbrev pub heed : Option Call → Pool → Outcome
 heed none p = record { answer = refusal 6; pool = p }
-heed (some c) p = call c p
+heed (some c) p = record { answer = answerOf ((call c p) .answer); pool = (call c p) .pool }
 
 -- input that ends early, a first word other than 2, too many requests
 abbrev pub stop : List Answer
@@ -59,7 +64,7 @@ counted b p =
 unfoldable pub pooled : List ℕ → List Answer
 pooled b =
     cond (ltb (length b) 8) stop
-    (cond (eqb (formatted (wordAt b 0) (wordAt b 4) (sized (wordAt b 0) (wordAt b 4))) 0)
+    (cond (formatted (wordAt b 0) (wordAt b 4) (sized (wordAt b 0) (wordAt b 4)))
     (counted (drop 8 b) (fresh (wordAt b 0) (wordAt b 4)))
     (refusal 5 ∷ []))
 

@@ -6,11 +6,11 @@ use mathlib.Core.Option.{Option, none, some}
 use Prim.Native.Nat.{ℕ, zero, suc, _+_, _≤_, _<_}
 use lib.ListN.{length, take, drop}
 use lib.Dec.{leb, eqb}
-use Rattle.forest.specs.Sizes.{mostTrees, mostNodes, leafLeast}
+use Rattle.forest.specs.Sizes.{mostTrees, mostNodes}
 use Rattle.forest.specs.declared.Answer.{Answer}
-use Rattle.forest.specs.Answers.{refusal}
+use Rattle.forest.specs.Answers.{refusal, answerOf}
 use Rattle.forest.specs.Pools.{Call, formatWords, formatAnswer}
-use Rattle.forest.specs.Promises.{Calls}
+use Rattle.map.specs.Numbers.{AnswersCall}
 use Rattle.requests.specs.declared.Stage.{Stage}
 use Rattle.requests.specs.declared.Stage.the-variants.{Kind, Sizes, Count, Request, Stopped}
 use Rattle.requests.specs.declared.Said.{Said}
@@ -66,14 +66,14 @@ afterCount words b = cond (leb (wordAt b 0) mostRequests) (goes (asking words (w
 
 -- T and N judged: as many words as they ask for, all if there are fewer, are formatted
 pub record Sized (b before after : List ℕ) (r : Turn) : Type 0 where
-  pub turn : r ≡ afterFormat (sizedBy b) (formatAnswer (wordAt b 0) (wordAt b 4) (take (sizedBy b) before))
+  pub turn : r ≡ afterFormat (sizedBy b) (answerOf (formatAnswer (wordAt b 0) (wordAt b 4) (take (sizedBy b) before)))
   pub words : take (sizedBy b) after ≡ formatWords (wordAt b 0) (wordAt b 4) (take (sizedBy b) before)
   pub others : drop (sizedBy b) after ≡ drop (sizedBy b) before
 
 -- a request on words: what the call promises; 6 and nothing changed where it is unknown
 abbrev pub Heeds : Option Call → List ℕ → List ℕ → Answer → Type 0
 Heeds none before after a = (after ≡ before) × (a ≡ refusal 6)
-Heeds (some c) before after a = Calls leafLeast c before after a
+Heeds (some c) before after a = AnswersCall c before after a
 
 -- a request judged, on the pool's part of the words: its answer is said, and the next is asked for
 pub record Requested (words more : ℕ) (b before after : List ℕ) (r : Turn) : Type 0 where

@@ -1,8 +1,6 @@
 use Rattle.forest.specs.Pools.{get}
-use Rattle.forest.specs.declared.Refusal.the-variants.{Unsound}
 use borrow.Author.Tests.{not-true, not-false}
-use Rattle.map.proofs.Gating.{check-no}
-use Rattle.map.proofs.Promising.{closed-calls}
+use Rattle.map.proofs.Gating.{no-calls}
 use borrow.Author.Needs.{needs}
 use Rattle.map.proofs.get.Statement.{statement}
 use Rattle.map.proofs.get.Tie as tie
@@ -14,7 +12,7 @@ returns : tie.Need-returns
 returns c =
     let start = c .before .before .before in
     let a = start .args in
-    closed-calls (get (a .tree) (a .key)) (a .ws .now) Unsound (check-no (a .ws .now) _ (c .before .check .ensures) (not-true _ (c .if1 .taken)))
+    no-calls (a .ws .now) _ (c .before .check .ensures) (not-true _ (c .if1 .taken)) (get (a .tree) (a .key))
 
 sound-get-requires : tie.Need-sound-get-requires
 sound-get-requires c κs = c .before .check .ensures .yes (not-false _ (c .if1 .left))

@@ -1,8 +1,6 @@
 use Rattle.forest.specs.Cursors.{to-key}
-use Rattle.forest.specs.declared.Refusal.the-variants.{Unsound}
 use borrow.Author.Tests.{not-true, not-false}
-use Rattle.map.proofs.Gating.{check-no}
-use Rattle.map.proofs.Promising.{closed-moves}
+use Rattle.map.proofs.Gating.{no-moves}
 use borrow.Author.Needs.{needs}
 use Rattle.map.proofs.seek.Statement.{statement}
 use Rattle.map.proofs.seek.Tie as tie
@@ -14,7 +12,7 @@ returns : tie.Need-returns
 returns c =
     let start = c .before .before .before in
     let a = start .args in
-    closed-moves (to-key (a .key)) (a .at) (a .ws .now) Unsound (check-no (a .ws .now) _ (c .before .check .ensures) (not-true _ (c .if1 .taken)))
+    no-moves (a .ws .now) _ (c .before .check .ensures) (not-true _ (c .if1 .taken)) (to-key (a .key)) (a .at)
 
 sound-seek-requires : tie.Need-sound-seek-requires
 sound-seek-requires c κs = c .before .check .ensures .yes (not-false _ (c .if1 .left))

@@ -1,6 +1,6 @@
 use Rattle.forest.specs.Cursors.{leaves, first, to-first}
 use Rattle.path.proofs.Made.{gone-ready, gone-standing}
-use Rattle.map.proofs.Promising.{closed-moves, first-moves}
+use Rattle.map.proofs.Promising.{gated-moves, first-moves}
 use borrow.Author.Needs.{needs}
 use Rattle.map.proofs.sound_first.Statement.{statement}
 use Rattle.map.proofs.sound_first.Tie as tie
@@ -29,7 +29,7 @@ returns : tie.Need-returns
 returns c =
     let start = c .before .before .before .before .before in
     let a = start .args in
-    closed-moves to-first (a .at) (a .ws .now) (c .before .why .given .0 .0) (c .before .before .before .gate .ensures .shut (c .before .why .given .0 .0) (c .before .why .given .1))
+    gated-moves to-first (a .at) (a .ws .now) (c .before .why .given .0 .0) (start .pre) (c .before .before .before .gate .ensures .shut (c .before .why .given .0 .0) (c .before .why .given .1))
 
 returns-2 : tie.Need-returns-2
 returns-2 c =

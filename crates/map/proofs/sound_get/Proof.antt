@@ -1,5 +1,5 @@
 use Rattle.forest.specs.Pools.{get}
-use Rattle.map.proofs.Promising.{closed-calls, get-calls}
+use Rattle.map.proofs.Promising.{gated-calls, get-calls}
 use borrow.Author.Needs.{needs}
 use Rattle.map.proofs.sound_get.Statement.{statement}
 use Rattle.map.proofs.sound_get.Tie as tie
@@ -23,7 +23,7 @@ returns : tie.Need-returns
 returns c =
     let start = c .before .before .before .before .before in
     let a = start .args in
-    closed-calls (get (a .tree) (a .key)) (a .ws .now) (c .before .why .given .0 .0) (c .before .before .before .gate .ensures .shut (c .before .why .given .0 .0) (c .before .why .given .1))
+    gated-calls (get (a .tree) (a .key)) (a .ws .now) (c .before .why .given .0 .0) (start .pre) (c .before .before .before .gate .ensures .shut (c .before .why .given .0 .0) (c .before .why .given .1))
 
 returns-2 : tie.Need-returns-2
 returns-2 c =

@@ -1,5 +1,5 @@
 use Rattle.forest.specs.Pools.{put}
-use Rattle.map.proofs.Promising.{closed-calls, put-calls}
+use Rattle.map.proofs.Promising.{gated-calls, put-calls}
 use borrow.Author.Needs.{needs}
 use Rattle.map.proofs.sound_put.Statement.{statement}
 use Rattle.map.proofs.sound_put.Tie as tie
@@ -23,7 +23,7 @@ returns : tie.Need-returns
 returns c =
     let start = c .before .before .before .before .before .before in
     let a = start .args in
-    closed-calls (put (a .tree) (a .key) (a .value)) (a .ws .now) (c .before .why .given .0 .0) (c .before .before .before .gate .ensures .shut (c .before .why .given .0 .0) (c .before .why .given .1))
+    gated-calls (put (a .tree) (a .key) (a .value)) (a .ws .now) (c .before .why .given .0 .0) (start .pre) (c .before .before .before .gate .ensures .shut (c .before .why .given .0 .0) (c .before .why .given .1))
 
 same-length-2 : tie.Need-same-length-2
 same-length-2 c = search needs

@@ -4,7 +4,7 @@ use Rattle.forest.specs.Pools.{remove}
 use Rattle.path.proofs.Roots.{root-place}
 use Rattle.path.proofs.Foots.{ends-in, ends-looks}
 use Rattle.map.proofs.Gating.{held-other}
-use Rattle.map.proofs.Promising.{closed-calls}
+use Rattle.map.proofs.Promising.{gated-calls}
 use Rattle.map.proofs.Removing.{held-nothing, removed-calls, absent-calls, empty-calls, root-some, place-few, ask-key}
 use borrow.Author.Needs.{needs}
 use Rattle.map.proofs.sound_remove.Statement.{statement}
@@ -85,7 +85,7 @@ returns-4 : tie.Need-returns-4
 returns-4 c =
     let start = c .before .before .before .before .before .before in
     let a = start .args in
-    closed-calls (remove (a .tree) (a .key)) (a .ws .now) (c .before .why .given .0 .0) (c .before .before .before .gate .ensures .shut (c .before .why .given .0 .0) (c .before .why .given .1))
+    gated-calls (remove (a .tree) (a .key)) (a .ws .now) (c .before .why .given .0 .0) (start .pre) (c .before .before .before .gate .ensures .shut (c .before .why .given .0 .0) (c .before .why .given .1))
 
 same-length-5 : tie.Need-same-length-5
 same-length-5 c = search needs

@@ -1,6 +1,6 @@
 use Rattle.forest.specs.Cursors.{seek, to-key}
 use Rattle.path.proofs.Made.{fits-seek, gone-ready, gone-standing}
-use Rattle.map.proofs.Promising.{closed-moves, seek-moves}
+use Rattle.map.proofs.Promising.{gated-moves, seek-moves}
 use borrow.Author.Needs.{needs}
 use Rattle.map.proofs.sound_seek.Statement.{statement}
 use Rattle.map.proofs.sound_seek.Tie as tie
@@ -31,7 +31,7 @@ returns : tie.Need-returns
 returns c =
     let start = c .before .before .before .before .before in
     let a = start .args in
-    closed-moves (to-key (a .key)) (a .at) (a .ws .now) (c .before .why .given .0 .0) (c .before .before .before .gate .ensures .shut (c .before .why .given .0 .0) (c .before .why .given .1))
+    gated-moves (to-key (a .key)) (a .at) (a .ws .now) (c .before .why .given .0 .0) (start .pre) (c .before .before .before .gate .ensures .shut (c .before .why .given .0 .0) (c .before .why .given .1))
 
 returns-2 : tie.Need-returns-2
 returns-2 c =

@@ -16,7 +16,7 @@ returns : tie.Need-returns
 returns c =
     let start = c .before .before .before .before .before in
     let a = start .args in
-    told-no (a .ws .now) (a .at) _ (c .before .before .before .admit .ensures) (c .before .why .given .0 .0) (c .before .why .given .1) (start .pre)
+    told-no (a .ws .now) (a .at) _ (c .before .before .before .admit .ensures) (c .before .why .given .0 .0) (c .before .why .given .1)
 
 returns-2 : tie.Need-returns-2
 returns-2 c =

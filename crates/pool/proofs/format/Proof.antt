@@ -1,7 +1,6 @@
 use mathlib.Core.Path.{_≡_, sym, _∙_}
 use mathlib.Core.Bool.{true, false}
 use lib.ListN.{length}
-use lib.Dec.{eqb}
 use borrow.Author.Tests.{not-true, not-false}
 use Rattle.forest.specs.Pools.{formatted}
 use Rattle.pool.proofs.Fresh.{formatted-fits, format-words, format-nothing, format-kept, format-refused}
@@ -12,10 +11,10 @@ use Rattle.pool.proofs.format.Tie as tie
 format-fits-requires : tie.Need-format-fits-requires
 format-fits-requires c κs = search needs
 
-refused : (c : tie.Then1) → eqb (formatted (c .before .before .before .args .trees) (c .before .before .before .args .nodes) (length (c .before .before .before .args .ws .now))) 0 ≡ false
+refused : (c : tie.Then1) → formatted (c .before .before .before .args .trees) (c .before .before .before .args .nodes) (length (c .before .before .before .args .ws .now)) ≡ false
 refused c = sym (c .before .format-fits .ensures) ∙ not-true (c .before .format-fits .result) (c .if1 .taken)
 
-fits : (c : tie.Else1) → eqb (formatted (c .before .before .before .args .trees) (c .before .before .before .args .nodes) (length (c .before .before .before .args .ws .now))) 0 ≡ true
+fits : (c : tie.Else1) → formatted (c .before .before .before .args .trees) (c .before .before .before .args .nodes) (length (c .before .before .before .args .ws .now)) ≡ true
 fits c = sym (c .before .format-fits .ensures) ∙ not-false (c .before .format-fits .result) (c .if1 .left)
 
 returns : tie.Need-returns

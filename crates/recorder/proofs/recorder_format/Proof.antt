@@ -1,4 +1,5 @@
-use mathlib.Core.Path.{_∙_}
+use mathlib.Core.Path.{ap, _∙_}
+use Rattle.forest.specs.Answers.{answerOf}
 use borrow.Author.Needs.{needs}
 use Rattle.recorder.proofs.recorder_format.Statement.{statement}
 use Rattle.recorder.proofs.recorder_format.Tie as tie
@@ -13,7 +14,7 @@ same-length : tie.Need-same-length
 same-length c = search needs
 
 returns : tie.Need-returns
-returns c = (c .before .before .before .format .ensures .0, c .numbered .ensures ∙ c .before .before .before .format .ensures .1)
+returns c = (c .before .before .before .format .ensures .0, c .numbered .ensures ∙ ap answerOf (c .before .before .before .format .ensures .1))
 
 pub recorder-format-spec : {M : Type 1} → statement M
 recorder-format-spec = tie.close (tie.spec format-requires numbered-requires same-length returns)

@@ -14,7 +14,7 @@ same-length : tie.Need-same-length
 same-length c = search needs
 
 returns : tie.Need-returns
-returns c = heeds-put _ _ _ _ _ _ _ (c .before .before .before .before .before .if1 .taken) (rw (c .numbered .ensures) (c .before .before .before .put .ensures))
+returns c = heeds-put _ _ _ _ _ _ _ (c .before .before .before .before .before .if1 .taken) (record { reply = _; promise = c .before .before .before .put .ensures; numbered = c .numbered .ensures })
 
 remove-requires : tie.Need-remove-requires
 remove-requires c κs = search needs
@@ -26,7 +26,7 @@ same-length-2 : tie.Need-same-length-2
 same-length-2 c = search needs
 
 returns-2 : tie.Need-returns-2
-returns-2 c = heeds-remove _ _ _ _ _ _ _ (c .before .before .before .before .before .before .if1 .left) (c .before .before .before .before .before .if2 .taken) (rw (c .numbered2 .ensures) (c .before .before .before .remove .ensures))
+returns-2 c = heeds-remove _ _ _ _ _ _ _ (c .before .before .before .before .before .before .if1 .left) (c .before .before .before .before .before .if2 .taken) (record { reply = _; promise = c .before .before .before .remove .ensures; numbered = c .numbered2 .ensures })
 
 get-requires : tie.Need-get-requires
 get-requires c κs = search needs
@@ -38,7 +38,7 @@ same-length-3 : tie.Need-same-length-3
 same-length-3 c = search needs
 
 returns-3 : tie.Need-returns-3
-returns-3 c = heeds-get _ _ _ _ _ _ _ (c .before .before .before .before .before .if1 .left) (c .before .before .before .before .if2 .left) (c .before .before .before .if3 .taken) (rw (c .numbered3 .ensures) (c .before .get .ensures))
+returns-3 c = heeds-get _ _ _ _ _ _ _ (c .before .before .before .before .before .if1 .left) (c .before .before .before .before .if2 .left) (c .before .before .before .if3 .taken) (record { reply = _; promise = c .before .get .ensures; numbered = c .numbered3 .ensures })
 
 refusal-requires : tie.Need-refusal-requires
 refusal-requires c κs = search needs
