@@ -144,7 +144,7 @@ module _ (ws : List ℕ) (t tree : ℕ) (ns ps : List ℕ) (level : ℕ) (w : Li
     pairs-are = ap leafPairs e ∙ leaf-items ws t tree ns ps level s p d
 
   -- a full one
-  module _ (key value : ℕ) (r : SplitOff) (q : r ≡ splitOf leafWords (keeps 7 (getD ps level 0)) (getD ps level 0) (insertAt (getD ps level 0) (key, value) (leafPairs w)))
+  module _ (key value : ℕ) (r : SplitOff) (q : r ≡ splitOf leafWords (keeps 7 (getD ps level 0)) (insertAt (getD ps level 0) (key, value) (leafPairs w)))
       (h : 39 ≤ getD w 0 0) (s : Grows.Scene) (p : ℕ) (g : Grows.Landed s p ws t tree ns ps level) where
     abbrev x : Item
     x = (key, value)
