@@ -10,8 +10,9 @@ use lib.Seq.{set-getD}
 use lib.Dec.{ltb, eqb}
 use borrow.Author.Tests.{lt-ltb, le-ltb, eq-eqb, ne-eqb, ltb-true, eqb-true}
 use Rattle.forest.specs.Sizes.{leafLeast}
+use Rattle.forest.specs.Lists.{insertAt}
 use Rattle.forest.specs.Pairs.{Item, Rising, has, place, lookup}
-use Rattle.forest.specs.Rows.{Row}
+use Rattle.forest.specs.Rows.{Row, full}
 use Rattle.forest.specs.Trees.{leafItems, need, getTree}
 use Rattle.forest.specs.declared.Refusal.the-variants.{NoRoom}
 use Rattle.forest.specs.declared.Reply.the-variants.{Nothing, Value, Refused}
@@ -127,18 +128,33 @@ module _ (p : Pools.Pool) (w : Pools.WellFormed leafLeast p) (tree k v : ℕ) (t
       pub absent-at : isAt (leafItems k L) e k ≡ false
       absent-at = miss-at k (leafItems k L) e h
 
-      pub absent-need : need 7 k (Pools.treeOf p tree) ≡ Grows.leafNeed s
-      unfolding need
-      absent-need = rw is-tree (simp h)
-
       pub absent-held : held (getTree k (Pools.treeOf p tree)) ≡ Nothing
       unfolding getTree
       absent-held = rw is-tree (ap held (lookup-has k (leafItems k L) h))
 
-      pub absent-words : Grows.leafNeed s ≤ length (p .free) → Grows.landedWords s e tree (k, v) ≡ Pools.encode (Pools.done (Pools.put tree k v) p)
-      unfolding Grows.landedWords
-      absent-words b =
-          let q = Pooled.put-spell leafLeast (omega arith) (omega arith) p w tree k v there (rw absent-need b) in
-          let z = rw (absent-need, is-tree) at q in
-          let y = simp h at z in
-          y
+      -- and the leaf has room
+      module _ (b : full 7 (s .at) (s .row) ≡ false) where
+        pub room-need : need 7 k (Pools.treeOf p tree) ≡ 0
+        unfolding need
+        room-need = rw is-tree (simp (h, b))
+
+        pub room-words : spell (s .roots) (s .nodes) (put (s .store) (Grows.numAt (s .row) (s .at)) (Pools.leafWords (insertAt e (k, v) (leafItems k L)))) (s .free) ≡ Pools.encode (Pools.done (Pools.put tree k v) p)
+        room-words =
+            let q = Pooled.put-spell leafLeast (omega arith) (omega arith) p w tree k v there (rw room-need (omega arith)) in
+            let z = rw (room-need, is-tree) at q in
+            let y = simp (h, b, root-held) at z in
+            y
+
+      -- or it is full
+      module _ (b : full 7 (s .at) (s .row) ≡ true) where
+        pub full-need : need 7 k (Pools.treeOf p tree) ≡ Grows.leafNeed s
+        unfolding need
+        full-need = rw is-tree (simp (h, b))
+
+        pub full-words : Grows.leafNeed s ≤ length (p .free) → Grows.landedWords s e tree (k, v) ≡ Pools.encode (Pools.done (Pools.put tree k v) p)
+        unfolding Grows.landedWords
+        full-words m =
+            let q = Pooled.put-spell leafLeast (omega arith) (omega arith) p w tree k v there (rw full-need m) in
+            let z = rw (full-need, is-tree) at q in
+            let y = simp (h, b) at z in
+            y

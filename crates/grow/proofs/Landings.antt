@@ -2,16 +2,15 @@
 use mathlib.Core.Path.{_≡_, sym, ap, _∙_}
 use mathlib.Core.List.{List}
 use mathlib.Core.Bool.{Bool, true, false}
-use Prim.Native.Nat.{ℕ, suc, _+_, _-_, _≤_, _<_}
+use Prim.Native.Nat.{ℕ, _+_, _≤_, _<_}
 use native.Mathlib.Omega.{arith}
 use lib.ListN.{length, drop, getD, length-drop}
-use lib.Seq.{set-getD}
-use borrow.Author.Tests.{le-leb, lt-leb, ltb-true, ltb-false}
+use borrow.Author.Tests.{le-leb, lt-leb, leb-true, ltb-true, ltb-false}
 use Rattle.forest.specs.Lists.{insertAt, count}
 use Rattle.forest.specs.Pairs.{Item}
 use Rattle.forest.specs.Rows.{front, sizes, itemsAt, keeps, full}
 use Rattle.forest.specs.Trees.{numbers, needUp}
-use Rattle.forest.specs.Pools.{leafWords, rootAbove}
+use Rattle.forest.specs.Pools.{leafWords}
 use Rattle.forest.proofs.ListLaws.{drop-one}
 use Rattle.forest.proofs.RowLaws.{length-items}
 use Rattle.pool.specs.Stores.{put, spell, block, withBlock, topNode, Placed}
@@ -33,7 +32,7 @@ abbrev pub leafNum : Grows.Scene → ℕ
 leafNum s = Grows.numAt (s .row) (s .at)
 
 module _ (ws : List ℕ) (t tree : ℕ) (ns ps : List ℕ) (level : ℕ) where
-  module _ (s : Grows.Scene) (p : ℕ) (d : Grows.Land s p ws t tree ns ps level) where
+  module _ (s : Grows.Scene) (p : ℕ) (d : Grows.Site s p ws t tree ns ps level) where
     pub leaf-range : (1 ≤ leafNum s) × (leafNum s ≤ s .nodes)
     leaf-range = d .range-more (leafNum s) (Mem.numAt-counts (s .row) (s .at) (d .under .within))
 
@@ -76,124 +75,93 @@ module _ (ws : List ℕ) (t tree : ℕ) (ns ps : List ℕ) (level : ℕ) where
         rw (d .node, ← (d .under .words), ← (d .under .trees))
         (spell-withBlock (s .roots) (s .nodes) (s .store) (s .free) (d .under .sixteen) (leafNum s) (leaf-range .0) (leaf-range .1) _ (Spelling.leaf-length ys))
 
-  -- for each scene of these words
-  pub load-leaf : Grows.Lands ws t tree ns ps level → Placed ws t (getD ns level 0)
-  load-leaf g = leaf-placed (g .scene) (g .entry) (g .land)
-
-  pub unders : Grows.Lands ws t tree ns ps level → Grows.Unders ws t tree ns ps level
-  unders g = record { scene = g .scene; under = g .land .under }
-
-  pub none-here : (w : List ℕ) → w ≡ block ws t (getD ns level 0) → getD w 0 0 < 39 → (s : Grows.Scene) (p : ℕ) → Grows.Land s p ws t tree ns ps level → 0 ≡ Grows.leafNeed s
-  none-here w e h s p d = sym (rw (leaf-room s p d (rw e at h)))
-
-  pub more-here : (r : ℕ) (w : List ℕ) → w ≡ block ws t (getD ns level 0) → 39 ≤ getD w 0 0 →
-      ((s : Grows.Scene) → Grows.Under s ws t tree ns ps level → r ≡ needUp (s .at) (s .rows)) → (s : Grows.Scene) (p : ℕ) → Grows.Land s p ws t tree ns ps level → 1 + r ≡ Grows.leafNeed s
-  more-here r w e h f s p d =
-      let z : Grows.leafNeed s ≡ suc (needUp (s .at) (s .rows)) = rw (leaf-full s p d (rw e at h)) in
-      let y = f s (d .under) in
-      omega arith
+  -- the need, for each scene of these words
+  pub more-here : (r : ℕ) → ((s : Grows.Scene) → Grows.Under s ws t tree ns ps level → r ≡ needUp (s .at) (s .rows)) → (s : Grows.Scene) (p : ℕ) → Grows.Land s p ws t tree ns ps level → 1 + r ≡ Grows.leafNeed s
+  more-here r f s p d = let y = f s (d .site .under) in omega arith
 
 -- THE ENTRY COMES
 -- the scene once the leaf is cut, x at place p in it
 abbrev pub cutLeaf : Grows.Scene → ℕ → Item → Grows.Scene
 cutLeaf s p x = Cutting.cutFrom s (leafNum s) (leafWords (Grows.leftPart 7 p x (leafOf s))) (leafWords (Grows.rightPart 7 p x (leafOf s)))
 
-landed-room : (s : Grows.Scene) (p tree : ℕ) (x : Item) → getD (s .roots) tree 0 ≡ rootAbove (s .row) (s .rows) → full 7 (s .at) (s .row) ≡ false →
-    Grows.landedWords s p tree x ≡ spell (s .roots) (s .nodes) (put (s .store) (leafNum s) (leafWords (insertAt p x (leafOf s)))) (s .free)
-unfolding Grows.landedWords
-landed-room s p tree x e q = simp (q, ← e, set-getD (s .roots) tree 0)
-
-landed-full : (s : Grows.Scene) (p tree : ℕ) (x : Item) → full 7 (s .at) (s .row) ≡ true →
-    Grows.climbed (cutLeaf s p x) tree (front (Grows.rightPart 7 p x (leafOf s)), getD (s .free) 0 0) ≡ Grows.landedWords s p tree x
+landed-full : (s : Grows.Scene) (p tree : ℕ) (x : Item) → Grows.climbed (cutLeaf s p x) tree (front (Grows.rightPart 7 p x (leafOf s)), getD (s .free) 0 0) ≡ Grows.landedWords s p tree x
 unfolding Grows.landedWords Grows.climbed
-landed-full s p tree x q = simp (q, drop-one)
+landed-full s p tree x = simp drop-one
 
 -- after a try to put it in the leaf as it is
-module _ (ws : List ℕ) (t tree : ℕ) (ns ps : List ℕ) (level : ℕ) (x : Item) (o : List ℕ) (b : Bool) (f : Tries t (getD ns level 0) (getD ps level 0) x ws o b) where
-  -- there was room
-  module _ (z : b ≡ true) (s : Grows.Scene) (p : ℕ) (d : Grows.Land s p ws t tree ns ps level) where
-    pub has-room : full 7 (s .at) (s .row) ≡ false
-    has-room = leaf-room ws t tree ns ps level s p d (ltb-true _ _ (sym (f .room) ∙ z))
+module _ (ws : List ℕ) (t tree : ℕ) (ns ps : List ℕ) (level : ℕ) (x : Item) (o : List ℕ) (b : Bool) (f : Tries t (getD ns level 0) (getD ps level 0) x ws o b)
+    (s : Grows.Scene) (p : ℕ) (d : Grows.Site s p ws t tree ns ps level) where
+  pub has-room : b ≡ true → full 7 (s .at) (s .row) ≡ false
+  has-room z = leaf-room ws t tree ns ps level s p d (ltb-true _ _ (sym (f .room) ∙ z))
 
-    pub room-done : o ≡ Grows.landedWords s p tree x
-    unfolding filledWords
-    room-done =
-        f .done-words z ∙
-        rw (leaf-items ws t tree ns ps level s p d, d .place) (leaf-put ws t tree ns ps level s p d (insertAt p x (leafOf s))) ∙
-        sym (landed-room s p tree x (d .under .root) has-room)
+  pub room-done : b ≡ true → o ≡ spell (s .roots) (s .nodes) (put (s .store) (leafNum s) (leafWords (insertAt p x (leafOf s)))) (s .free)
+  unfolding filledWords
+  room-done z = f .done-words z ∙ rw (leaf-items ws t tree ns ps level s p d, d .place) (leaf-put ws t tree ns ps level s p d (insertAt p x (leafOf s)))
 
-  -- there was none, and nothing has happened
-  module _ (z : b ≡ false) where
-    pub still-fits : Grows.Fits ws t tree ns ps level → Grows.Fits o t tree ns ps level
-    still-fits g = rw (f .full-words z) g
-
-    pub still-landed : (s : Grows.Scene) (p : ℕ) → Grows.Landed s p ws t tree ns ps level → Grows.Landed s p o t tree ns ps level
-    still-landed s p g = rw (f .full-words z) g
-
-    pub full-word : (w : List ℕ) → w ≡ block o t (getD ns level 0) → 39 ≤ getD w 0 0
-    full-word w e = rw (e, f .full-words z) (ltb-false _ _ (sym (f .room) ∙ z))
+  -- there was none
+  pub lands-full : b ≡ false → Grows.Land s p ws t tree ns ps level
+  lands-full z = record { site = d; no-room = leaf-full ws t tree ns ps level s p d (ltb-false _ _ (sym (f .room) ∙ z)) }
 
 module _ (ws : List ℕ) (t tree : ℕ) (ns ps : List ℕ) (level : ℕ) (w : List ℕ) (e : w ≡ block ws t (getD ns level 0)) where
   module _ (s : Grows.Scene) (p : ℕ) (d : Grows.Land s p ws t tree ns ps level) where
-    pub split-asks : 39 ≤ getD w 0 0 → Leaf w × (getD w 0 0 ≡ 39) × (getD ps level 0 ≤ 7)
-    split-asks h =
-        let leaf : Leaf w = rw e ((leaf-place ws t tree ns ps level s p d) .leaf) in
-        (leaf, omega (arith, leaf .few), rw (d .place) (omega (arith, leaf-inside ws t tree ns ps level s p d, leaf-size ws t tree ns ps level s p d)))
+    pub split-asks : Leaf w × (getD w 0 0 ≡ 39) × (getD ps level 0 ≤ 7)
+    split-asks =
+        let z : getD w 0 0 ≡ 32 + length (leafOf s) = ap (λ (v : List ℕ). getD v 0 0) (e ∙ leaf-block ws t tree ns ps level s p (d .site)) in
+        let n = length-items (s .row) (s .at) in
+        let m = leb-true 7 (getD (sizes (s .row)) (s .at) 0) (d .no-room) in
+        (rw e ((leaf-place ws t tree ns ps level s p (d .site)) .leaf), omega (arith, d .site .few), rw (d .site .place) (omega (arith, d .site .inside, d .site .few)))
 
     pub pairs-are : leafPairs w ≡ leafOf s
-    pairs-are = ap leafPairs e ∙ leaf-items ws t tree ns ps level s p d
+    pairs-are = ap leafPairs e ∙ leaf-items ws t tree ns ps level s p (d .site)
 
-  -- a full one
-  module _ (key value : ℕ) (r : SplitOff) (q : r ≡ splitOf leafWords (keeps 7 (getD ps level 0)) (getD ps level 0) (insertAt (getD ps level 0) (key, value) (leafPairs w)))
-      (h : 39 ≤ getD w 0 0) (s : Grows.Scene) (p : ℕ) (g : Grows.Landed s p ws t tree ns ps level) where
+  -- it is cut
+  module _ (key value : ℕ) (r : SplitOff) (q : r ≡ splitOf leafWords (keeps 7 (getD ps level 0)) (insertAt (getD ps level 0) (key, value) (leafPairs w)))
+      (s : Grows.Scene) (p : ℕ) (g : Grows.Landed s p ws t tree ns ps level) where
     abbrev x : Item
     x = (key, value)
 
+    abbrev d : Grows.Site s p ws t tree ns ps level
+    d = g .land .site
+
     u : Grows.Under s ws t tree ns ps level
-    u = g .land .under
-
-    is-full : full 7 (s .at) (s .row) ≡ true
-    is-full = leaf-full ws t tree ns ps level s p (g .land) (rw e at h)
-
-    needs-more : Grows.leafNeed s ≡ suc (needUp (s .at) (s .rows))
-    needs-more = rw is-full
+    u = d .under
 
     some-free : 1 ≤ length (s .free)
-    some-free = omega (arith, needs-more, g .enough)
+    some-free = omega (arith, g .enough)
 
     still-enough : needUp (s .at) (s .rows) ≤ length (drop 1 (s .free))
-    still-enough = omega (arith, length-drop 1 (s .free), needs-more, g .enough)
+    still-enough = omega (arith, length-drop 1 (s .free), g .enough)
 
     left-is : r .left ≡ leafWords (Grows.leftPart 7 p x (leafOf s))
-    left-is = ap (λ (o : SplitOff). o .left) q ∙ rw (pairs-are s p (g .land), g .land .place)
+    left-is = ap (λ (o : SplitOff). o .left) q ∙ rw (pairs-are s p (g .land), d .place)
 
     right-is : r .right ≡ leafWords (Grows.rightPart 7 p x (leafOf s))
-    right-is = ap (λ (o : SplitOff). o .right) q ∙ rw (pairs-are s p (g .land), g .land .place)
+    right-is = ap (λ (o : SplitOff). o .right) q ∙ rw (pairs-are s p (g .land), d .place)
 
     key-is : r .key ≡ front (Grows.rightPart 7 p x (leafOf s))
-    key-is = ap (λ (o : SplitOff). o .key) q ∙ rw (pairs-are s p (g .land), g .land .place)
+    key-is = ap (λ (o : SplitOff). o .key) q ∙ rw (pairs-are s p (g .land), d .place)
 
     pub cuts-asks : Grows.AskCut ws t (getD ns level 0)
     cuts-asks = record {
       takes = Cutting.takes ws t tree ns ps level s u some-free;
-      node = leaf-placed ws t tree ns ps level s p (g .land);
+      node = leaf-placed ws t tree ns ps level s p d;
     }
 
     apart : count (leafNum s) (numbers (s .rows)) ≡ 0
-    apart = omega (arith, Mem.numAt-counts (s .row) (s .at) (u .within), g .land .once-more (leafNum s))
+    apart = omega (arith, Mem.numAt-counts (s .row) (s .at) (u .within), d .once-more (leafNum s))
 
     module _ (m : List ℕ) (f : m ≡ Grows.cutWords ws t (getD ns level 0) (r .left) (r .right)) where
       pub climb-asks : Grows.Climb (cutLeaf s p x) m t tree ns ps level
       climb-asks =
-          let n = leaf-range ws t tree ns ps level s p (g .land) in
+          let n = leaf-range ws t tree ns ps level s p d in
           record {
             under = Cutting.cut-under ws t tree ns ps level s u some-free (leafNum s) (n .0) (n .1) apart
                 (leafWords (Grows.leftPart 7 p x (leafOf s))) (leafWords (Grows.rightPart 7 p x (leafOf s)))
-                (Spelling.leaf-length (Grows.leftPart 7 p x (leafOf s))) (Spelling.leaf-length (Grows.rightPart 7 p x (leafOf s))) m (f ∙ rw (left-is, right-is, g .land .node));
+                (Spelling.leaf-length (Grows.leftPart 7 p x (leafOf s))) (Spelling.leaf-length (Grows.rightPart 7 p x (leafOf s))) m (f ∙ rw (left-is, right-is, d .node));
             enough = still-enough;
           }
 
       pub climb-done : (rhs : ℕ) (o : List ℕ) → rhs ≡ topNode ws t → ((s′ : Grows.Scene) → Grows.Climb s′ m t tree ns ps level → o ≡ Grows.climbed s′ tree (r .key, rhs)) →
           o ≡ Grows.landedWords s p tree x
       climb-done rhs o a ens =
-          ens (cutLeaf s p x) climb-asks ∙ rw (key-is, a, Cutting.top-is ws t tree ns ps level s u some-free) (landed-full s p tree x is-full)
+          ens (cutLeaf s p x) climb-asks ∙ rw (key-is, a, Cutting.top-is ws t tree ns ps level s u some-free) (landed-full s p tree x)

@@ -1,7 +1,7 @@
 -- PROOFS. The first key of a list or of a row becomes another: an inner node's words don't show it
 use mathlib.Core.Path.{_≡_, refl, sym, ap}
 use mathlib.Core.List.{List, [], _∷_, _++_}
-use Prim.Native.Nat.{ℕ, suc, _+_, _-_, _≤_}
+use Prim.Native.Nat.{ℕ, suc, _+_, _≤_}
 use native.Mathlib.Omega.{arith}
 use lib.ListN.{length}
 use lib.Seq.{take-append-seam, drop-append-seam}
@@ -23,10 +23,6 @@ leadRow f (n ∷ R) = node (n .num) (lead f (n .items)) ∷ R
 pub lead-words : (f : ℕ) (xs : List Item) → innerWords (lead f xs) ≡ innerWords xs
 lead-words f [] = refl
 lead-words f (x ∷ xs) = refl
-
-pub lead-same : (xs : List Item) → lead (front xs) xs ≡ xs
-lead-same [] = refl
-lead-same (x ∷ xs) = refl
 
 pub lead-length : (f : ℕ) (xs : List Item) → length (lead f xs) ≡ length xs
 lead-length f [] = refl

@@ -2,7 +2,7 @@
 use mathlib.Core.Path.{_≡_, refl, ap, _∙_}
 use mathlib.Core.List.{List, [], _∷_}
 use mathlib.Core.Bool.{true, false, cond}
-use Prim.Native.Nat.{ℕ, zero, suc, _+_, _-_, _≤_, _<_}
+use Prim.Native.Nat.{ℕ, zero, suc, _+_, _≤_, _<_}
 use native.Mathlib.Omega.{arith}
 use lib.ListN.{length, take, drop, getD, set, length-drop}
 use lib.Dec.{eqb}
@@ -27,17 +27,24 @@ pub use Rattle.pool.proofs.HeldTrees.{HoldsTree}
 use Rattle.forest.proofs.FrameLaws.{upto-at, place-some, some-at, root-refresh}
 use Rattle.forest.proofs.NodeForms.{front-put}
 
--- the store and the root after a put
+-- the store and the root once x has come to place p of the j-th leaf, which has room or is cut
+abbrev pub entryStore : ℕ → ℕ → Item → List ℕ → Row → List Row → Store → Store
+entryStore j p x new L Rs st = cond (full 7 j L) (leafStore j p x new L Rs st) (put st (numAt L j) (leafWords (insertAt p x (itemsAt L j))))
+
+abbrev pub entryRoot : ℕ → List ℕ → Row → List Row → ℕ
+entryRoot j new L Rs = cond (full 7 j L) (leafRoot j new L Rs) (rootAbove L Rs)
+
+-- and after a put
 abbrev pub putStore : ℕ → ℕ → List ℕ → Tree → Store → Store
 putStore k v new [] st = put st (getD new 0 0) (leafWords ((k, v) ∷ []))
 putStore k v new (L ∷ Rs) st =
     cond (has k (leafItems k L))
     (put st (numAt L (leafOf k L)) (leafWords (set (leafItems k L) (place k (leafItems k L)) (k, v))))
-    (leafStore (leafOf k L) (place k (leafItems k L)) (k, v) new L Rs st)
+    (entryStore (leafOf k L) (place k (leafItems k L)) (k, v) new L Rs st)
 
 abbrev pub putRoot : ℕ → List ℕ → Tree → ℕ
 putRoot k new [] = getD new 0 0
-putRoot k new (L ∷ Rs) = cond (has k (leafItems k L)) (rootAbove L Rs) (leafRoot (leafOf k L) new L Rs)
+putRoot k new (L ∷ Rs) = cond (has k (leafItems k L)) (rootAbove L Rs) (entryRoot (leafOf k L) new L Rs)
 
 behind : (k : ℕ) (L : Row) → NoneEmpty L → leafOf k L < length L → has k (leafItems k L) ≡ false → 1 ≤ leafOf k L → 1 ≤ place k (leafItems k L)
 behind k [] s h e b = absurd (omega arith)
@@ -128,7 +135,7 @@ module _ (m : ℕ) (lo : 1 ≤ m) (k v : ℕ) (new : List ℕ) (L : Row) (Rs : L
 
   -- the rows
   absent-holds : (st : Store) → ((y : ℕ) → count y (numbers (L ∷ Rs)) + count y new ≤ 1) → HoldsTree st (L ∷ Rs) →
-      HoldsTree (leafStore j p x new L Rs st) (putRow 7 j p x (getD new 0 0) L ∷ refresh (putRow 7 j p x (getD new 0 0) L) (cond (full 7 j L) (growUp j (drop 1 new) Rs) Rs))
+      HoldsTree (entryStore j p x new L Rs st) (putRow 7 j p x (getD new 0 0) L ∷ refresh (putRow 7 j p x (getD new 0 0) L) (cond (full 7 j L) (growUp j (drop 1 new) Rs) Rs))
   absent-holds st o s = elim (test (full 7 j L)) [
     | is q ↦
         let h : suc (needUp j Rs) ≤ length new = simp q at enough in
@@ -150,7 +157,7 @@ module _ (m : ℕ) (lo : 1 ≤ m) (k v : ℕ) (new : List ℕ) (L : Row) (Rs : L
     )
   ]
 
-  absent-keeps : (st : Store) (y : ℕ) → count y (numbers (L ∷ Rs)) + count y (take (cond (full 7 j L) (suc (needUp j Rs)) 0) new) ≡ 0 → leafStore j p x new L Rs st y ≡ st y
+  absent-keeps : (st : Store) (y : ℕ) → count y (numbers (L ∷ Rs)) + count y (take (cond (full 7 j L) (suc (needUp j Rs)) 0) new) ≡ 0 → entryStore j p x new L Rs st y ≡ st y
   absent-keeps st y c =
       let other : y ≡ numAt L j → ⊥ = Mem.apart (nums L) y (numAt L j) (omega (arith, Mem.parts y L Rs)) (Mem.numAt-counts L j at) in
       elim (test (full 7 j L)) [
@@ -165,7 +172,7 @@ module _ (m : ℕ) (lo : 1 ≤ m) (k v : ℕ) (new : List ℕ) (L : Row) (Rs : L
         | isnt q ↦ simp q (put-other st (numAt L j) (leafWords (insertAt p x (itemsAt L j))) y other)
       ]
 
-  absent-root : rootAbove (putRow 7 j p x (getD new 0 0) L) (refresh (putRow 7 j p x (getD new 0 0) L) (cond (full 7 j L) (growUp j (drop 1 new) Rs) Rs)) ≡ leafRoot j new L Rs
+  absent-root : rootAbove (putRow 7 j p x (getD new 0 0) L) (refresh (putRow 7 j p x (getD new 0 0) L) (cond (full 7 j L) (growUp j (drop 1 new) Rs) Rs)) ≡ entryRoot j new L Rs
   absent-root = elim (test (full 7 j L)) [
     | is q ↦ simp q (Up.up-root (led-cut .first) L (putRow 7 j p x (getD new 0 0) L) Rs (rootAbove L Rs) j _ (drop 1 new) (g .2) at (cut-line q) refl)
     | isnt q ↦ simp q (root-refresh L (putRow 7 j p x (getD new 0 0) L) Rs (putRow-room 7 j p x (getD new 0 0) L q))

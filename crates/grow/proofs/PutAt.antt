@@ -22,7 +22,7 @@ use Rattle.path.proofs.Roots.{trees-are, the-pool}
 use Rattle.grow.specs.Grows
 use Rattle.grow.specs.Puts.{isAt, LeafPlace, replacedWords, Replaces, Tries, Adds, Puts}
 use Rattle.grow.proofs.Landings
-use Rattle.grow.proofs.Sites.{sceneOf, found-land}
+use Rattle.grow.proofs.Sites.{sceneOf, found-site}
 use Rattle.grow.proofs.Calls
 use Rattle.grow.proofs.Putting.{there, root-word}
 
@@ -85,14 +85,14 @@ module _ (ws : List ℕ) (t tree k v : ℕ) (y : Ready ws t tree) (q : 1 ≤ get
       goes-there : c ≡ cursorAt tree (pathOf (L p o ∷ Rs p o) (seek k (L p o)))
       goes-there = d .goes .to p o ∙ ap (λ (x : Tree). cursorAt tree (pathOf x (seek k (leaves x)))) (tree-is p o)
 
-      land : Grows.Land (s p o) (at p o) ws t tree (c .nodes) (c .places) level
-      land = found-land p (o .formed) ws (o .same) t tree k (trees-are ws t tree y p o) (y .there) (L p o) (Rs p o) (tree-is p o) c goes-there
+      site : Grows.Site (s p o) (at p o) ws t tree (c .nodes) (c .places) level
+      site = found-site p (o .formed) ws (o .same) t tree k (trees-are ws t tree y p o) (y .there) (L p o) (Rs p o) (tree-is p o) c goes-there
 
       place-is : e ≡ at p o
-      place-is = sym (d .place) ∙ land .place
+      place-is = sym (d .place) ∙ site .place
 
       items-are : leafPairs (block ws t n) ≡ items p o
-      items-are = rw (← d .node) (Landings.leaf-items ws t tree (c .nodes) (c .places) level (s p o) (at p o) land)
+      items-are = rw (← d .node) (Landings.leaf-items ws t tree (c .nodes) (c .places) level (s p o) (at p o) site)
 
       is-at : isAt (leafPairs (block ws t n)) e k ≡ isAt (items p o) (at p o) k
       is-at = rw (items-are, place-is)
@@ -103,10 +103,10 @@ module _ (ws : List ℕ) (t tree k v : ℕ) (y : Ready ws t tree) (q : 1 ≤ get
       replaced-is : replacedWords ws t n e (k, v) ≡
           spell (s p o .roots) (s p o .nodes) (put (s p o .store) (Grows.numAt (s p o .row) (s p o .at)) (Pools.leafWords (set (items p o) (at p o) (k, v)))) (s p o .free)
       unfolding replacedWords
-      replaced-is = rw (items-are, place-is, ← d .node) (Landings.leaf-put ws t tree (c .nodes) (c .places) level (s p o) (at p o) land (set (items p o) (at p o) (k, v)))
+      replaced-is = rw (items-are, place-is, ← d .node) (Landings.leaf-put ws t tree (c .nodes) (c .places) level (s p o) (at p o) site (set (items p o) (at p o) (k, v)))
 
     pub place-asks : LeafPlace ws t n e
-    place-asks = rw (← d .node, ← d .place) (Landings.leaf-place ws t tree (c .nodes) (c .places) level (s own mine) (at own mine) (land own mine))
+    place-asks = rw (← d .node, ← d .place) (Landings.leaf-place ws t tree (c .nodes) (c .places) level (s own mine) (at own mine) (site own mine))
 
     -- after a try to replace
     module _ (m : List ℕ) (r : Reply) (a : Replaces t n e k v ws m r) where
@@ -147,34 +147,6 @@ module _ (ws : List ℕ) (t tree k v : ℕ) (y : Ready ws t tree) (q : 1 ≤ get
         pub still-place : LeafPlace m t n e
         still-place = rw still place-asks
 
-        -- it is added
-        adds : (o′ : List ℕ) (r′ : Reply) → ((s : Grows.Scene) (p : ℕ) → Grows.Land s p ws t tree (c .nodes) (c .places) level → Adds s p tree (k, v) ws o′ r′) → Puts tree k v ws o′ r′
-        adds o′ r′ f = record {
-          words = λ p w q. let o : Of ws p = record { formed = w; same = q } in (both p o (leb (Grows.leafNeed (s p o)) (length (p .free))) refl) .0;
-          answer = λ p w q. let o : Of ws p = record { formed = w; same = q } in (both p o (leb (Grows.leafNeed (s p o)) (length (p .free))) refl) .1;
-        }
-          where
-            both : (p : Pools.Pool) (o : Of ws p) (b : Bool) → leb (Grows.leafNeed (s p o)) (length (p .free)) ≡ b →
-                (Pools.encode ((Pools.call (Pools.put tree k v) p) .pool) ≡ o′) × ((Pools.call (Pools.put tree k v) p) .answer ≡ r′)
-            both p o true h =
-                let l : Grows.leafNeed (s p o) ≤ length (p .free) = leb-true _ _ h in
-                let x = f (s p o) (at p o) (land p o) in
-                let n = Calls.absent-need p (o .formed) tree k v (in-pool p o) (L p o) (Rs p o) (tree-is p o) (absent p o) in
-                let d = Calls.done-call p tree k v (in-pool p o) (rw n l) in (
-                  ap (λ (d : Pools.Done). Pools.encode (d .pool)) d ∙
-                      sym (x .done-words l ∙ Calls.absent-words p (o .formed) tree k v (in-pool p o) (L p o) (Rs p o) (tree-is p o) (absent p o) l),
-                  ap (λ (d : Pools.Done). d .answer) d ∙
-                      Calls.absent-held p (o .formed) tree k v (in-pool p o) (L p o) (Rs p o) (tree-is p o) (absent p o) ∙ sym (x .done-reply l),
-                )
-            both p o false h =
-                let l : length (p .free) < Grows.leafNeed (s p o) = leb-false _ _ h in
-                let x = f (s p o) (at p o) (land p o) in
-                let n = Calls.absent-need p (o .formed) tree k v (in-pool p o) (L p o) (Rs p o) (tree-is p o) (absent p o) in
-                let d = Calls.refused-call p tree k v (in-pool p o) (rw n l) in (
-                  ap (λ (d : Pools.Done). Pools.encode (d .pool)) d ∙ o .same ∙ sym (x .refused-words l),
-                  ap (λ (d : Pools.Done). d .answer) d ∙ sym (x .refused-reply l),
-                )
-
         -- after a try to put it in the leaf as it is
         module _ (o : List ℕ) (b : Bool) (f : Tries t n e (k, v) m o b) where
           tried : Tries t (getD (c .nodes) level 0) (getD (c .places) level 0) (k, v) ws o b
@@ -182,14 +154,21 @@ module _ (ws : List ℕ) (t tree k v : ℕ) (y : Ready ws t tree) (q : 1 ≤ get
 
           -- there was room
           pub came : b ≡ true → Puts tree k v ws o Nothing
-          came h = adds o Nothing (λ s p l.
-              let none : Grows.leafNeed s ≡ 0 = rw (Landings.has-room ws t tree (c .nodes) (c .places) level (k, v) o b tried h s p l) in
-              record {
-                done-words = λ x. Landings.room-done ws t tree (c .nodes) (c .places) level (k, v) o b tried h s p l;
-                done-reply = λ x. refl;
-                refused-words = λ x. absurd (omega arith);
-                refused-reply = λ x. absurd (omega arith);
-              })
+          came h = record {
+            words = λ p w q. (both p (record { formed = w; same = q })) .0;
+            answer = λ p w q. (both p (record { formed = w; same = q })) .1;
+          }
+            where
+              both : (p : Pools.Pool) (i : Of ws p) → (Pools.encode ((Pools.call (Pools.put tree k v) p) .pool) ≡ o) × ((Pools.call (Pools.put tree k v) p) .answer ≡ Nothing)
+              both p i =
+                  let r = Landings.has-room ws t tree (c .nodes) (c .places) level (k, v) o b tried (s p i) (at p i) (site p i) h in
+                  let n = Calls.room-need p (i .formed) tree k v (in-pool p i) (L p i) (Rs p i) (tree-is p i) (absent p i) r in
+                  let d = Calls.done-call p tree k v (in-pool p i) (omega arith) in (
+                    ap (λ (d : Pools.Done). Pools.encode (d .pool)) d ∙
+                        sym (Landings.room-done ws t tree (c .nodes) (c .places) level (k, v) o b tried (s p i) (at p i) (site p i) h ∙
+                        Calls.room-words p (i .formed) tree k v (in-pool p i) (L p i) (Rs p i) (tree-is p i) (absent p i) r),
+                    ap (λ (d : Pools.Done). d .answer) d ∙ Calls.absent-held p (i .formed) tree k v (in-pool p i) (L p i) (Rs p i) (tree-is p i) (absent p i),
+                  )
 
           -- there was none
           module _ (h : b ≡ false) where
@@ -198,6 +177,37 @@ module _ (ws : List ℕ) (t tree k v : ℕ) (y : Ready ws t tree) (q : 1 ≤ get
 
             pub still-ready : Ready o t tree
             still-ready = rw unchanged y
+
+            land : (p : Pools.Pool) (i : Of ws p) → Grows.Land (s p i) (at p i) ws t tree (c .nodes) (c .places) level
+            land p i = Landings.lands-full ws t tree (c .nodes) (c .places) level (k, v) o b tried (s p i) (at p i) (site p i) h
+
+            -- it is added
+            adds : (o′ : List ℕ) (r′ : Reply) → ((s : Grows.Scene) (p : ℕ) → Grows.Land s p ws t tree (c .nodes) (c .places) level → Adds s p tree (k, v) ws o′ r′) → Puts tree k v ws o′ r′
+            adds o′ r′ f = record {
+              words = λ p w q. let i : Of ws p = record { formed = w; same = q } in (both p i (leb (Grows.leafNeed (s p i)) (length (p .free))) refl) .0;
+              answer = λ p w q. let i : Of ws p = record { formed = w; same = q } in (both p i (leb (Grows.leafNeed (s p i)) (length (p .free))) refl) .1;
+            }
+              where
+                both : (p : Pools.Pool) (i : Of ws p) (b : Bool) → leb (Grows.leafNeed (s p i)) (length (p .free)) ≡ b →
+                    (Pools.encode ((Pools.call (Pools.put tree k v) p) .pool) ≡ o′) × ((Pools.call (Pools.put tree k v) p) .answer ≡ r′)
+                both p i true h =
+                    let l : Grows.leafNeed (s p i) ≤ length (p .free) = leb-true _ _ h in
+                    let x = f (s p i) (at p i) (land p i) in
+                    let n = Calls.full-need p (i .formed) tree k v (in-pool p i) (L p i) (Rs p i) (tree-is p i) (absent p i) (land p i .no-room) in
+                    let d = Calls.done-call p tree k v (in-pool p i) (rw n l) in (
+                      ap (λ (d : Pools.Done). Pools.encode (d .pool)) d ∙
+                          sym (x .done-words l ∙ Calls.full-words p (i .formed) tree k v (in-pool p i) (L p i) (Rs p i) (tree-is p i) (absent p i) (land p i .no-room) l),
+                      ap (λ (d : Pools.Done). d .answer) d ∙
+                          Calls.absent-held p (i .formed) tree k v (in-pool p i) (L p i) (Rs p i) (tree-is p i) (absent p i) ∙ sym (x .done-reply l),
+                    )
+                both p i false h =
+                    let l : length (p .free) < Grows.leafNeed (s p i) = leb-false _ _ h in
+                    let x = f (s p i) (at p i) (land p i) in
+                    let n = Calls.full-need p (i .formed) tree k v (in-pool p i) (L p i) (Rs p i) (tree-is p i) (absent p i) (land p i .no-room) in
+                    let d = Calls.refused-call p tree k v (in-pool p i) (rw n l) in (
+                      ap (λ (d : Pools.Done). Pools.encode (d .pool)) d ∙ i .same ∙ sym (x .refused-words l),
+                      ap (λ (d : Pools.Done). d .answer) d ∙ sym (x .refused-reply l),
+                    )
 
             -- and a cursor is made
             module _ (made : Cursor) (g : Goes (seek k) o tree made) where

@@ -2,7 +2,7 @@
 use mathlib.Core.Path.{_≡_, refl, sym, ap, _∙_}
 use mathlib.Core.List.{List, [], _∷_, _++_, map}
 use mathlib.Core.Bool.{true, false, true≢false}
-use Prim.Native.Nat.{ℕ, zero, suc, _+_, _-_, _≤_, _<_}
+use Prim.Native.Nat.{ℕ, zero, suc, _+_, _≤_, _<_}
 use native.Mathlib.Omega.{arith}
 use lib.ListN.{length, getD, set, length-map, length-set}
 use lib.Dec.{ltb}
@@ -104,7 +104,7 @@ module _ (ws : List ℕ) (t tree : ℕ) (ns ps : List ℕ) (level : ℕ) where
   module _ (x : Item) (f n : ℕ) (q : f ≡ freeCount ws t) (a : (s : Grows.Scene) (p : ℕ) → Grows.Land s p ws t tree ns ps level → n ≡ Grows.leafNeed s) where
     pub refuse : f < n → (s : Grows.Scene) (p : ℕ) → Grows.Land s p ws t tree ns ps level → Adds s p tree x ws ws (Refused NoRoom)
     refuse h s p d =
-        let y = free-is s (d .under) f q in
+        let y = free-is s (d .site .under) f q in
         let z = a s p d in
         record {
           done-words = λ b. absurd (omega arith);
@@ -117,13 +117,13 @@ module _ (ws : List ℕ) (t tree : ℕ) (ns ps : List ℕ) (level : ℕ) where
     fits h g = record {
       scene = g .scene;
       entry = g .entry;
-      landed = record { land = g .land; enough = omega (arith, free-is (g .scene) (g .land .under) f q, a (g .scene) (g .entry) (g .land)) };
+      landed = record { land = g .land; enough = omega (arith, free-is (g .scene) (g .land .site .under) f q, a (g .scene) (g .entry) (g .land)) };
     }
 
     pub comes : (o : List ℕ) → n ≤ f → ((s : Grows.Scene) (p : ℕ) → Grows.Landed s p ws t tree ns ps level → o ≡ Grows.landedWords s p tree x) →
         (s : Grows.Scene) (p : ℕ) → Grows.Land s p ws t tree ns ps level → Adds s p tree x ws o Nothing
     comes o h ens s p d =
-        let y = free-is s (d .under) f q in
+        let y = free-is s (d .site .under) f q in
         let z = a s p d in
         record {
           done-words = λ b. ens s p (record { land = d; enough = b });

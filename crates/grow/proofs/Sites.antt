@@ -103,8 +103,8 @@ module _ (p : Pools.Pool) (w : Pools.WellFormed leafLeast p) (ws : List ℕ) (sa
       along = along ns ps j Rs ((getD (nums L) j 0, e) ∷ []) (λ h b. (f h (omega (arith, few-rows)), g h (omega (arith, few-rows))));
     }
 
-    pub land-of : Grows.Land (sceneOf p k L Rs) e ws t tree ns ps (length Rs)
-    land-of =
+    pub site-of : Grows.Site (sceneOf p k L Rs) e ws t tree ns ps (length Rs)
+    site-of =
         let q = up-at j Rs (getD (nums L) j 0, e) [] in
         let s : 1 ≤ length (itemsAt L j) = some-at L j (none-empty leafLeast 7 L (omega arith) (good .1)) at in
         record {
@@ -127,9 +127,9 @@ module _ (p : Pools.Pool) (w : Pools.WellFormed leafLeast p) (ws : List ℕ) (sa
     pub size-is : c .size ≡ suc (length Rs)
     size-is = ap (λ (d : Cursor). d .size) cursor-is ∙ length-pathUp j Rs ((getD (nums L) j 0, e) ∷ []) ∙ omega arith
 
-    pub found-land : Grows.Land (sceneOf p k L Rs) e ws t tree (c .nodes) (c .places) (c .size - 1)
-    found-land =
+    pub found-site : Grows.Site (sceneOf p k L Rs) e ws t tree (c .nodes) (c .places) (c .size - 1)
+    found-site =
         let z : c .size - 1 ≡ length Rs = omega (arith, size-is) in
-        rw z (land-of (c .nodes) (c .places)
+        rw z (site-of (c .nodes) (c .places)
         (λ h b. ap (λ (d : Cursor). getD (d .nodes) h 0) cursor-is ∙ node-at tree path h b)
         (λ h b. ap (λ (d : Cursor). getD (d .places) h 0) cursor-is ∙ place-at tree path h b))

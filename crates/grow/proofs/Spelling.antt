@@ -1,7 +1,7 @@
 -- PROOFS. On the words over a store: a node taken and made a root, and a node cut in two
 use mathlib.Core.Path.{_≡_}
 use mathlib.Core.List.{List, [], _∷_}
-use Prim.Native.Nat.{ℕ, _+_, _-_, _≤_, _<_}
+use Prim.Native.Nat.{ℕ, _+_, _≤_, _<_}
 use native.Mathlib.Omega.{arith}
 use lib.ListN.{length, drop, getD, set}
 use Rattle.pool.specs.Stores.{Store, put, spell, Sixteen, withBlock, topNode, takenWords}

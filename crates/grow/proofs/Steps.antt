@@ -164,7 +164,7 @@ module _ (ws : List ℕ) (t tree : ℕ) (ns ps : List ℕ) (level : ℕ) (b : 1 
         )
 
   -- the halves of the cut node
-  module _ (key node : ℕ) (r : SplitOff) (q : r ≡ splitOf innerWords (keeps 8 (suc (getD ps (level - 1) 0))) (suc (getD ps (level - 1) 0)) (insertAt (suc (getD ps (level - 1) 0)) (key, node) (innerItems w)))
+  module _ (key node : ℕ) (r : SplitOff) (q : r ≡ splitOf innerWords (keeps 8 (suc (getD ps (level - 1) 0))) (insertAt (suc (getD ps (level - 1) 0)) (key, node) (innerItems w)))
       (h : 23 ≤ getD w 0 0) (s : Grows.Scene) (g : Grows.Climb s ws t tree ns ps level) where
     abbrev here : Seen ws t tree ns ps s level
     here = seen-up s (g .under)

@@ -1,8 +1,8 @@
 -- DEFINITIONS. What a put does to the words, node by node: over a store, for rows of nodes and the path that leads up from one of them
 use mathlib.Core.Path.{_≡_}
 use mathlib.Core.List.{List, [], _∷_}
-use mathlib.Core.Bool.{cond}
-use Prim.Native.Nat.{ℕ, suc, _+_, _-_, _≤_, _<_}
+use mathlib.Core.Bool.{true, cond}
+use Prim.Native.Nat.{ℕ, suc, _+_, _≤_, _<_}
 use lib.ListN.{length, take, drop, getD, set}
 use Rattle.forest.specs.Sizes.{mostTrees, mostNodes, mostLevels, leafCap, innerCap}
 use Rattle.forest.specs.Lists.{insertAt, count, parent, offset}
@@ -50,17 +50,15 @@ abbrev pub upRoot : ℕ → ℕ → List ℕ → List Row → ℕ
 upRoot r i new [] = getD new 0 0
 upRoot r i new (S ∷ Ss) = cond (full innerCap (parent (sizes S) i) S) (upRoot r (parent (sizes S) i) (drop 1 new) Ss) r
 
--- the entry x comes to place p of the j-th leaf
+-- the entry x comes to place p of the j-th leaf, which is full
 abbrev pub leafStore : ℕ → ℕ → Item → List ℕ → Row → List Row → Store → Store
 leafStore j p x new L Rs st =
-    cond (full leafCap j L)
-    (upStore (rootAbove L Rs) j (front (rightPart leafCap p x (itemsAt L j)), getD new 0 0) (drop 1 new) Rs
-    (cutStore leafWords (numAt L j) (leftPart leafCap p x (itemsAt L j)) (getD new 0 0) (rightPart leafCap p x (itemsAt L j)) st))
-    (put st (numAt L j) (leafWords (insertAt p x (itemsAt L j))))
+    upStore (rootAbove L Rs) j (front (rightPart leafCap p x (itemsAt L j)), getD new 0 0) (drop 1 new) Rs
+    (cutStore leafWords (numAt L j) (leftPart leafCap p x (itemsAt L j)) (getD new 0 0) (rightPart leafCap p x (itemsAt L j)) st)
 
 -- the root afterwards
 abbrev pub leafRoot : ℕ → List ℕ → Row → List Row → ℕ
-leafRoot j new L Rs = cond (full leafCap j L) (upRoot (rootAbove L Rs) j (drop 1 new) Rs) (rootAbove L Rs)
+leafRoot j new L Rs = upRoot (rootAbove L Rs) j (drop 1 new) Rs
 
 -- Going up
 
@@ -124,7 +122,7 @@ climbed s tree x =
     (drop (needUp (s .at) (s .rows)) (s .free))
 
 -- the entry's place p in the leaf of the scene; ns and ps have one level more, the leaf's
-pub record Land (s : Scene) (p : ℕ) (ws : List ℕ) (t tree : ℕ) (ns ps : List ℕ) (level : ℕ) : Type 0 where
+pub record Site (s : Scene) (p : ℕ) (ws : List ℕ) (t tree : ℕ) (ns ps : List ℕ) (level : ℕ) : Type 0 where
   pub under : Under s ws t tree ns ps level
   pub node : getD ns level 0 ≡ numAt (s .row) (s .at)
   pub place : getD ps level 0 ≡ p
@@ -135,15 +133,20 @@ pub record Land (s : Scene) (p : ℕ) (ws : List ℕ) (t tree : ℕ) (ns ps : Li
   pub once-more : (y : ℕ) → count y (nums (s .row)) + count y (numbers (s .rows)) + count y (s .free) ≤ 1
   pub range-more : (y : ℕ) → 1 ≤ count y (nums (s .row)) → (1 ≤ y) × (y ≤ s .nodes)
 
+-- and the leaf is full
+pub record Land (s : Scene) (p : ℕ) (ws : List ℕ) (t tree : ℕ) (ns ps : List ℕ) (level : ℕ) : Type 0 where
+  pub site : Site s p ws t tree ns ps level
+  pub no-room : full leafCap (s .at) (s .row) ≡ true
+
 -- there is such a scene, and a place
 pub record Lands (ws : List ℕ) (t tree : ℕ) (ns ps : List ℕ) (level : ℕ) : Type 0 where
   pub scene : Scene
   pub entry : ℕ
   pub land : Land scene entry ws t tree ns ps level
 
--- how many nodes a new entry takes
+-- how many nodes the entry takes
 abbrev pub leafNeed : Scene → ℕ
-leafNeed s = cond (full leafCap (s .at) (s .row)) (suc (needUp (s .at) (s .rows))) 0
+leafNeed s = suc (needUp (s .at) (s .rows))
 
 -- and nodes enough for the entry
 pub record Landed (s : Scene) (p : ℕ) (ws : List ℕ) (t tree : ℕ) (ns ps : List ℕ) (level : ℕ) : Type 0 where

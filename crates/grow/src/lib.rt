@@ -52,17 +52,12 @@ fn need_above(ws: &[u32], t: usize, c: Cursor, level: usize) -> u32
     1 + need_above(ws, t, c, level - 1)
 }
 
-// How many nodes a new entry takes where the path stands.
+// How many nodes a new entry takes where the path stands, in a full leaf.
 fn need(ws: &[u32], t: usize, c: Cursor) -> u32
     requires { ⌜ (1 ≤ c .size) × Lands (now ws) t (c .tree) (c .nodes) (c .places) (c .size - 1) ⌝ }
     ensures { λ r. ⌜ ((s : Scene) (p : ℕ) → Land s p (now (ws .entry)) t (c .tree) (c .nodes) (c .places) (c .size - 1) → r ≡ leafNeed s) ⌝ }
 {
     let level = c.size as usize - 1;
-    let n = c.nodes[level];
-    let w = pool::load(ws, t, n);
-    if w[0] < 39 {
-        return 0;
-    }
     1 + need_above(ws, t, c, level)
 }
 
@@ -107,7 +102,7 @@ fn try_leaf_insert(ws: &mut [u32], t: usize, n: u32, at: usize, key: u32, value:
     true
 }
 
-// The entry comes where the path stands; there are nodes enough.
+// The entry comes where the path stands, in a full leaf, which is cut; there are nodes enough.
 fn insert(ws: &mut [u32], t: usize, c: Cursor, key: u32, value: u32)
     requires { ⌜ (1 ≤ c .size) × Fits (now ws) t (c .tree) (c .nodes) (c .places) (c .size - 1) ⌝ }
     ensures { λ _. ⌜ ((s : Scene) (p : ℕ) → Landed s p (now (ws .entry)) t (c .tree) (c .nodes) (c .places) (c .size - 1) → now (ws .exit) ≡ landedWords s p (c .tree) (key, value)) ⌝ }
@@ -115,9 +110,6 @@ fn insert(ws: &mut [u32], t: usize, c: Cursor, key: u32, value: u32)
     let level = c.size as usize - 1;
     let n = c.nodes[level];
     let at = c.places[level] as usize;
-    if try_leaf_insert(ws, t, n, at, key, value) {
-        return;
-    }
     let split = node::leaf_split(pool::load(ws, t, n), at, key, value);
     let left = split.left;
     let right = split.right;
@@ -142,7 +134,7 @@ fn replace(ws: &mut [u32], t: usize, n: u32, at: usize, key: u32, value: u32) ->
     Reply::Value(earlier)
 }
 
-// An absent key comes where the path stands, if there are nodes enough: they are counted before the first store.
+// An absent key comes where the path stands, in a full leaf, if there are nodes enough: they are counted before the first store.
 fn add(ws: &mut [u32], t: usize, c: Cursor, key: u32, value: u32) -> Reply
     requires { ⌜ (1 ≤ c .size) × Lands (now ws) t (c .tree) (c .nodes) (c .places) (c .size - 1) ⌝ }
     ensures { λ r. ⌜ ((s : Scene) (p : ℕ) → Land s p (now (ws .entry)) t (c .tree) (c .nodes) (c .places) (c .size - 1) → Adds s p (c .tree) (key, value) (now (ws .entry)) (now (ws .exit)) r) ⌝ }

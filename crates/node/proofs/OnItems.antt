@@ -19,31 +19,28 @@ use Rattle.node.proofs.Steps.{leaf-cut-none, leaf-cut-some, inner-cut-n
 
 -- Insert
 
-pub leaf-insert : (xs : List Item) (i : ℕ) (x : Item) → length xs ≤ 7 → leafWords (insertAt i x (leafPairs (leafWords xs))) ≡ leafWords (insertAt i x xs)
-leaf-insert xs i x h = ap (λ (l : List Item). leafWords (insertAt i x l)) (leaf-pairs xs h)
-
 pub inner-insert : (xs : List Item) (i : ℕ) (x : Item) → 1 ≤ length xs → length xs ≤ 8 →
     innerWords (insertAt (suc i) x (innerItems (innerWords xs))) ≡ innerWords (insertAt (suc i) x xs)
 inner-insert xs i x h l = ap (λ (u : List Item). innerWords (insertAt (suc i) x u)) (inner-items xs h l) ∙ insert-first 0 i x xs
 
 -- Cut in two
 
-pub leaf-split : (xs : List Item) (k i : ℕ) (x : Item) → length xs ≤ 7 → splitOf leafWords k i (insertAt i x (leafPairs (leafWords xs))) ≡ splitOf leafWords k i (insertAt i x xs)
-leaf-split xs k i x h = ap (λ (l : List Item). splitOf leafWords k i (insertAt i x l)) (leaf-pairs xs h)
+pub leaf-split : (xs : List Item) (l i : ℕ) (x : Item) → length xs ≤ 7 → splitOf leafWords l (insertAt i x (leafPairs (leafWords xs))) ≡ splitOf leafWords l (insertAt i x xs)
+leaf-split xs l i x h = ap (λ (u : List Item). splitOf leafWords l (insertAt i x u)) (leaf-pairs xs h)
 
 -- a first key that is stored nowhere comes through a cut: it is neither in the words nor in the right half
 insert-rekey : (k i : ℕ) (x : Item) (xs : List Item) → 1 ≤ length xs → insertAt (suc i) x (rekeyAt 0 k xs) ≡ rekeyAt 0 k (insertAt (suc i) x xs)
 insert-rekey k i x [] h = absurd (omega arith)
 insert-rekey k i x (y ∷ xs) h = refl
 
-split-first : (k l p : ℕ) (us : List Item) → 1 ≤ l → splitOf innerWords l p (rekeyAt 0 k us) ≡ splitOf innerWords l p us
-split-first k l p us h = split-eq (take-first k l us) (ap innerWords (drop-first k l us h)) (ap front (drop-first k l us h)) refl
+split-first : (k l : ℕ) (us : List Item) → 1 ≤ l → splitOf innerWords l (rekeyAt 0 k us) ≡ splitOf innerWords l us
+split-first k l us h = split-eq (take-first k l us) (ap innerWords (drop-first k l us h)) (ap front (drop-first k l us h))
 
 pub inner-split : (xs : List Item) (l i : ℕ) (x : Item) → 1 ≤ length xs → length xs ≤ 8 → 1 ≤ l →
-    splitOf innerWords l (suc i) (insertAt (suc i) x (innerItems (innerWords xs))) ≡ splitOf innerWords l (suc i) (insertAt (suc i) x xs)
+    splitOf innerWords l (insertAt (suc i) x (innerItems (innerWords xs))) ≡ splitOf innerWords l (insertAt (suc i) x xs)
 inner-split xs l i x h m s =
-    ap (λ (u : List Item). splitOf innerWords l (suc i) (insertAt (suc i) x u)) (inner-items xs h m)
-    ∙ ap (splitOf innerWords l (suc i)) (insert-rekey 0 i x xs h) ∙ split-first 0 l (suc i) (insertAt (suc i) x xs) s
+    ap (λ (u : List Item). splitOf innerWords l (insertAt (suc i) x u)) (inner-items xs h m)
+    ∙ ap (splitOf innerWords l) (insert-rekey 0 i x xs h) ∙ split-first 0 l (insertAt (suc i) x xs) s
 
 -- Remove
 
@@ -115,14 +112,16 @@ pub inner-balance : (xs ys : List Item) → 1 ≤ length xs → length xs ≤ 8 
     balanceOf innerWords 8 (innerItems (innerWords xs) ++ rekeyAt 0 (front ys) (innerItems (innerWords ys))) ≡ balanceOf innerWords 8 (xs ++ ys)
 inner-balance xs ys a b c d = ap (balanceOf innerWords 8) (inner-both xs ys a b c d) ∙ balance-first 0 8 (xs ++ ys) (omega (arith, length-append xs ys))
 
--- What an insert makes of a leaf is a leaf with one pair more; so of inner nodes; and an inner node that lost a child, not its last, is one
+-- Two leaves that fit in one make a leaf; what an insert makes of an inner node is one with one child more; and one that lost a child, not its last, is one
 
-pub insert-leaf : (w r : List ℕ) (i : ℕ) (x : Item) → r ≡ leafWords (insertAt i x (leafPairs w)) → Leaf w → getD w 0 0 < 39 → Leaf r × (getD r 0 0 ≡ suc (getD w 0 0))
-insert-leaf w r i x e leaf h =
-    let m : length (insertAt i x (leafPairs w)) ≡ suc (length (leafPairs w)) = length-insertAt i x (leafPairs w) in
-    let n : length (leafPairs w) ≡ getD w 0 0 - 32 = length-pairs w in
+pub join-leaf : (w v r : List ℕ) → r ≡ (balanceOf leafWords 7 (leafPairs w ++ leafPairs v)) .right → Leaf w → Leaf v → getD w 0 0 + getD v 0 0 ≤ 71 → Leaf r × (getD r 0 0 + 32 ≡ getD w 0 0 + getD v 0 0)
+join-leaf w v r e leaf other h =
+    let us : List Item = leafPairs w ++ leafPairs v in
+    let n : length us ≡ getD w 0 0 - 32 + (getD v 0 0 - 32) = length-append (leafPairs w) (leafPairs v) ∙ rw (length-pairs w, length-pairs v) in
     let some : 33 ≤ getD w 0 0 = leaf .some in
-    subst⁻¹ (λ (v : List ℕ). Leaf v × (getD v 0 0 ≡ suc (getD w 0 0))) e (leaf-is (insertAt i x (leafPairs w)) (omega arith) (omega arith), omega arith)
+    let more : 33 ≤ getD v 0 0 = other .some in
+    let all : r ≡ leafWords us = e ∙ ap (λ (b : Balanced). b .right) (balance-fits leafWords 7 us (omega arith)) in
+    subst⁻¹ (λ (u : List ℕ). Leaf u × (getD u 0 0 + 32 ≡ getD w 0 0 + getD v 0 0)) all (leaf-is us (omega arith) (omega arith), omega arith)
 
 pub insert-inner : (w r : List ℕ) (i : ℕ) (x : Item) → r ≡ innerWords (insertAt i x (innerItems w)) → Inner w → getD w 0 0 < 23 → Inner r × (getD r 0 0 ≡ suc (getD w 0 0))
 insert-inner w r i x e node h =

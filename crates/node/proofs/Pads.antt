@@ -78,11 +78,11 @@ part-pad m from n xs h l =
     rw (pad-part m from n xs h l, e, pad-drop n m [], drop-nil n)
     (ap (λ (j : ℕ). take n (drop from xs) ++ pad (m - j) []) (sym k) ∙ pad-fill m (take n (drop from xs)) (omega arith))
 
--- and those of ys behind xs
-pub append-pad : (m : ℕ) (xs ys : List ℕ) → length xs + length ys ≤ m → paste (pad m xs) (length xs) (drop 0 (pad m ys)) (length ys) ≡ pad m (xs ++ ys)
+-- those of ys copied behind xs
+pub append-pad : (m : ℕ) (xs ys : List ℕ) → length xs + length ys ≤ m → paste (pad m xs) (length xs) (pad m ys) (length ys) ≡ pad m (xs ++ ys)
 append-pad m xs ys h =
     let a : take (length xs) (pad m xs) ≡ xs = pad-part m 0 (length xs) xs (omega arith) (omega arith) ∙ take-length xs in
-    let b : take (length ys) (drop 0 (pad m ys)) ≡ ys = pad-part m 0 (length ys) ys (omega arith) (omega arith) ∙ take-length ys in
+    let b : take (length ys) (pad m ys) ≡ ys = pad-part m 0 (length ys) ys (omega arith) (omega arith) ∙ take-length ys in
     rw (a, b, pad-drop (length xs + length ys) m xs, drop-of-length-le xs {i = length xs + length ys} (omega arith), sym (length-append xs ys))
     (pad-fill m (xs ++ ys) (omega (arith, length-append xs ys)))
 

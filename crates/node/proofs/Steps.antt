@@ -2,24 +2,24 @@
 use mathlib.Core.Path.{_≡_, ap, _∙_}
 use mathlib.Core.Logic.{_≢_}
 use mathlib.Core.List.{List, []}
-use mathlib.Core.Bool.{Bool, true, false, cond}
+use mathlib.Core.Bool.{true, false}
 use Prim.Native.Nat.{ℕ, _+_, _-_, _*_, _/_, _≤_, _<_}
 use native.Mathlib.Numerals.{add-one}
 use native.Mathlib.Omega.{arith}
 use lib.ListN.{length, take, drop, getD, length-drop}
-use lib.Seq.{take-all}
-use lib.Dec.{leb}
+use lib.Seq.{length-take-le}
 use borrow.Author.Tests.{le-leb, lt-leb, lt-ltb, le-ltb, eq-eqb, ne-eqb}
 use Rattle.forest.specs.Lists.{removeAt, pad}
 use Rattle.forest.specs.Pairs.{Item}
 use Rattle.forest.specs.Rows.{front, keeps}
 use Rattle.forest.specs.Pools.{leafWords, innerWords}
-use Rattle.node.specs.Nodes.{leafPairs, innerItems, leafCut, innerCut, statusOf, splitOf, keep, balanceOf, itemsOf, Halved}
+use Rattle.node.specs.Nodes.{leafPairs, innerItems, leafCut, innerCut, statusOf, splitOf, keep, balanceOf, itemsOf, halfItems, packed}
 use Rattle.node.specs.declared.items.Items.{Items}
 use Rattle.node.specs.declared.items.Halves.{Halves}
 use Rattle.node.specs.declared.SplitOff.{SplitOff}
 use Rattle.node.specs.declared.Balanced.{Balanced}
 use Rattle.node.specs.declared.Removed.the-variants.{Healthy, Rightmost, Underflow, Empty}
+use Rattle.node.proofs.ItemLaws.{halvesOf, half-items, Packs}
 
 pub keeps-left : (c p : ℕ) → p ≤ c / 2 → c / 2 + 1 ≡ keeps c p
 unfolding keeps
@@ -63,56 +63,42 @@ pub inner-cut-some : (w : List ℕ) (o : ℕ) → getD w 0 0 ≢ 16 → innerWor
 unfolding innerCut
 inner-cut-some w o e = simp (ne-eqb (getD w 0 0) 16 e)
 
-pub split-eq : {a b d e : List ℕ} {k m s t : ℕ} {o : Bool} → a ≡ d → b ≡ e → k ≡ m → s ≡ t →
-    _≡_ {A = SplitOff} (record { left = a; right = b; key = k; across = o; place = s }) (record { left = d; right = e; key = m; across = o; place = t })
-split-eq p q r s = cc
+pub split-eq : {a b d e : List ℕ} {k m : ℕ} → a ≡ d → b ≡ e → k ≡ m → _≡_ {A = SplitOff} (record { left = a; right = b; key = k }) (record { left = d; right = e; key = m })
+split-eq p q r = cc
 
 pub balance-eq : {a b d e : List ℕ} {k m : ℕ} → a ≡ d → b ≡ e → k ≡ m →
     _≡_ {A = Balanced} (record { all = false; left = a; right = b; key = k }) (record { all = false; left = d; right = e; key = m })
 balance-eq p q r = cc
 
--- two parts of items are their halves
-pub halves-done : (items : Items) (l n : ℕ) (a b : Items) (key : ℕ) → n ≡ items .count → l ≤ n →
-    ((xs : List Item) → items ≡ itemsOf xs → 0 + l ≤ length xs → a ≡ itemsOf (take l (drop 0 xs))) →
-    ((xs : List Item) → items ≡ itemsOf xs → l + (n - l) ≤ length xs → b ≡ itemsOf (take (n - l) (drop l xs))) →
-    ((xs : List Item) → items ≡ itemsOf xs → key ≡ front (drop l xs)) →
-    (us : List Item) → items ≡ itemsOf us → Halved l us (record { left = a; right = b; key = key })
-halves-done items l n a b key m h p q k us held =
-    let e : items .count ≡ length us = ap (λ (i : Items). i .count) held in
-    record {
-      left = p us held (omega arith);
-      right = q us held (omega arith) ∙ ap itemsOf (take-all (n - l) (drop l us) (simp length-drop (omega arith)));
-      key = k us held;
-    }
-
 -- items us, packed as `words`
-module _ (words : List Item → List ℕ) (us : List Item) where
-  abbrev Packed : Items → List ℕ → Type 0
-  Packed part w = (xs : List Item) → part ≡ itemsOf xs → w ≡ words xs
+module _ (words : List Item → List ℕ) (a i : ℕ) (packs : Packs words a i) (us : List Item) (s : Items) (held : s ≡ itemsOf us) where
+  -- both halves
+  halves-packed : (l : ℕ) (h : Halves) (left right : List ℕ) → h ≡ halfItems s l → length us ≤ 16 → 1 ≤ l → l < length us → left ≡ packed a i (h .left) → right ≡ packed a i (h .right) →
+      (left ≡ words (take l us)) × (right ≡ words (drop l us)) × (h .key ≡ front (drop l us))
+  halves-packed l h left right e few some more p q =
+      let d : h ≡ halvesOf us l = e ∙ half-items s l us held few more in (
+        p ∙ packs (h .left) (take l us) (ap (λ (o : Halves). o .left) d) (rw (length-take-le l us (omega arith)) some),
+        q ∙ packs (h .right) (drop l us) (ap (λ (o : Halves). o .right) d) (simp length-drop (omega arith)),
+        ap (λ (o : Halves). o .key) d,
+      )
 
-  pub split-done : (c p l : ℕ) (h : Halves) (left right : List ℕ) (place : ℕ) → l ≡ keeps c p → Halved l us h → Packed (h .left) left → Packed (h .right) right →
-      place ≡ cond (leb l p) (p - l) p → record { left = left; right = right; key = h .key; across = leb l p; place = place } ≡ splitOf words (keeps c p) p us
-  split-done c p l h left right place e d x y s =
-      let done : record { left = left; right = right; key = h .key; across = leb l p; place = place } ≡ splitOf words l p us =
-      split-eq (x (take l us) (d .left)) (y (drop l us) (d .right)) (d .key) s in
-      done ∙ ap (λ (j : ℕ). splitOf words j p us) e
+  pub split-done : (l m : ℕ) (h : Halves) (left right : List ℕ) → l ≡ m → h ≡ halfItems s l → length us ≤ 16 → 1 ≤ l → l < length us → left ≡ packed a i (h .left) → right ≡ packed a i (h .right) →
+      record { left = left; right = right; key = h .key } ≡ splitOf words m us
+  split-done l m h left right e d few some more p q =
+      let r = halves-packed l h left right d few some more p q in
+      split-eq (r .0) (r .1) (r .2) ∙ ap (λ (j : ℕ). splitOf words j us) e
 
-  module _ (items : Items) (held : items ≡ itemsOf us) (c : ℕ) where
-    pub balance-all : (w : List ℕ) → items .count ≤ c → Packed items w → record { all = true; left = pad 16 []; right = w; key = 0 } ≡ balanceOf words c us
+  module _ (c : ℕ) where
+    pub balance-all : (w : List ℕ) → 1 ≤ length us → length us ≤ c → w ≡ packed a i s → record { all = true; left = pad 16 []; right = w; key = 0 } ≡ balanceOf words c us
     unfolding balanceOf
-    balance-all w h q =
-        let n : items .count ≡ length us = ap (λ (i : Items). i .count) held in
-        simp (le-leb (length us) c (omega arith))
-        (ap (λ (r : List ℕ). record { all = true; left = pad 16 []; right = r; key = 0 }) (q us held))
+    balance-all w some h p =
+        simp (le-leb (length us) c h)
+        (ap (λ (r : List ℕ). record { all = true; left = pad 16 []; right = r; key = 0 }) (p ∙ packs s us held some))
 
-    pub balance-share : (h : Halves) (left right : List ℕ) → c < items .count →
-        ((xs : List Item) → items ≡ itemsOf xs → Halved (items .count - items .count / 2) xs h) → Packed (h .left) left → Packed (h .right) right →
+    pub balance-share : (h : Halves) (left right : List ℕ) → h ≡ halfItems s (s .count - s .count / 2) → length us ≤ 16 → 1 ≤ c → c < length us → left ≡ packed a i (h .left) → right ≡ packed a i (h .right) →
         record { all = false; left = left; right = right; key = h .key } ≡ balanceOf words c us
     unfolding balanceOf
-    balance-share h left right b f x y =
-        let d : Halved (items .count - items .count / 2) us h = f us held in
-        let n : items .count ≡ length us = ap (λ (i : Items). i .count) held in
-        let l : ℕ = items .count - items .count / 2 in
-        let e : l ≡ keep us = ap (λ (j : ℕ). j - j / 2) n in
-        simp (lt-leb (length us) c (omega arith))
-        (balance-eq (x (take l us) (d .left) ∙ ap (λ (j : ℕ). words (take j us)) e) (y (drop l us) (d .right) ∙ ap (λ (j : ℕ). words (drop j us)) e) (d .key ∙ ap (λ (j : ℕ). front (drop j us)) e))
+    balance-share h left right d few some more p q =
+        let e : s .count - s .count / 2 ≡ keep us = ap (λ (o : Items). o .count - o .count / 2) held in
+        let r = halves-packed (keep us) h left right (d ∙ ap (halfItems s) e) few (omega arith) (omega arith) p q in
+        simp (lt-leb (length us) c more) (balance-eq (r .0) (r .1) (r .2))

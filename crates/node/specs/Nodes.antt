@@ -3,12 +3,14 @@ use mathlib.Core.Path.{_≡_}
 use mathlib.Core.List.{List, [], _∷_, map}
 use mathlib.Core.Bool.{true, false, cond}
 use Prim.Native.Nat.{ℕ, zero, suc, _+_, _-_, _*_, _/_, _≤_}
-use lib.ListN.{length, take, drop, getD}
+use lib.ListN.{length, take, drop, getD, set}
+use lib.Seq.{paste}
 use lib.Dec.{ltb, leb, eqb}
 use Rattle.forest.specs.Lists.{removeAt, pad}
 use Rattle.forest.specs.Pairs.{Item}
 use Rattle.forest.specs.Rows.{front}
 use Rattle.forest.specs.Pools.{leafWords, innerWords}
+use Rattle.forest.specs.Slices.{inserted}
 use Rattle.node.specs.declared.items.Items.{Items}
 use Rattle.node.specs.declared.items.Halves.{Halves}
 use Rattle.node.specs.declared.SplitOff.{SplitOff}
@@ -70,15 +72,9 @@ leafCut w o = cond (eqb (getD w 0 0) 33) (pad 16 []) (leafWords (removeAt o (lea
 unfoldable pub innerCut : List ℕ → ℕ → List ℕ
 innerCut w o = cond (eqb (getD w 0 0) 16) (pad 16 []) (innerWords (removeAt o (innerItems w)))
 
--- items cut after the first l, which have a new one at place p: both halves, the first key on the right, and where the new item is now
-abbrev pub splitOf : (List Item → List ℕ) → ℕ → ℕ → List Item → SplitOff
-splitOf words l p us = record {
-  left = words (take l us);
-  right = words (drop l us);
-  key = front (drop l us);
-  across = leb l p;
-  place = cond (leb l p) (p - l) p;
-}
+-- items cut after the first l: both halves, and the first key on the right
+abbrev pub splitOf : (List Item → List ℕ) → ℕ → List Item → SplitOff
+splitOf words l us = record { left = words (take l us); right = words (drop l us); key = front (drop l us) }
 
 -- how many of some items the left of two nodes gets that share them
 abbrev pub keep : List Item → ℕ
@@ -95,8 +91,34 @@ balanceOf words c us =
 abbrev pub itemsOf : List Item → Items
 itemsOf xs = record { count = length xs; keys = pad 16 (map (λ (x : Item). x .0) xs); links = pad 16 (map (λ (x : Item). x .1) xs) }
 
--- items cut after the first l
-pub record Halved (l : ℕ) (us : List Item) (r : Halves) : Type 0 where
-  pub left : r .left ≡ itemsOf (take l us)
-  pub right : r .right ≡ itemsOf (drop l us)
-  pub key : r .key ≡ front (drop l us)
+-- one more, of key k and link l, at place i
+abbrev pub withItem : Items → ℕ → ℕ → ℕ → Items
+withItem s i k l = record { count = s .count + 1; keys = inserted (s .keys) i k; links = inserted (s .links) i l }
+
+-- one less, the one at place i; a 0 comes to the end
+abbrev pub lessItem : Items → ℕ → Items
+lessItem s i = record { count = s .count - 1; keys = pad 16 (removeAt i (s .keys)); links = pad 16 (removeAt i (s .links)) }
+
+-- the first key becomes k
+abbrev pub withKey : Items → ℕ → Items
+withKey s k = record { count = s .count; keys = set (s .keys) 0 k; links = s .links }
+
+-- those of a, and behind them those of b
+abbrev pub bothItems : Items → Items → Items
+bothItems a b = record {
+  count = a .count + b .count;
+  keys = paste (a .keys) (a .count) (b .keys) (b .count);
+  links = paste (a .links) (a .count) (b .links) (b .count);
+}
+
+-- n of them from place i on, over zeros
+abbrev pub partItems : Items → ℕ → ℕ → Items
+partItems s i n = record { count = n; keys = paste (pad 16 []) 0 (drop i (s .keys)) n; links = paste (pad 16 []) 0 (drop i (s .links)) n }
+
+-- the first l, the others, and the key of the first of these
+abbrev pub halfItems : Items → ℕ → Halves
+halfItems s l = record { left = partItems s 0 l; right = partItems s l (s .count - l); key = getD (s .keys) l 0 }
+
+-- a node's words: the count on top of a, seven keys from place i on, eight links
+abbrev pub packed : ℕ → ℕ → Items → List ℕ
+packed a i s = paste (paste ((a + s .count) ∷ pad 15 []) 1 (drop i (s .keys)) 7) 8 (s .links) 8

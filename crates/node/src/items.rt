@@ -1,13 +1,10 @@
 // The items of one node, or of two joined, between their words and their words again: leaves and inner nodes alike.
 ghost use mathlib.Core.Path.{_≡_};
-ghost use mathlib.Core.List.{List, _++_};
-ghost use Prim.Native.Nat.{_+_, _-_, _≤_, _<_};
-ghost use lib.ListN.{length, take, drop};
+ghost use Prim.Native.Nat.{_+_, _≤_, _<_};
+ghost use lib.ListN.{drop, getD};
 ghost use lib.Seq.{paste};
-ghost use Rattle.forest.specs.Lists.{insertAt, removeAt, pad};
-ghost use Rattle.forest.specs.Pairs.{Item};
-ghost use Rattle.forest.specs.Rows.{front};
-ghost use Rattle.node.specs.Nodes.{rekeyAt, itemsOf, Halved};
+ghost use Rattle.forest.specs.Lists.{removeAt, pad};
+ghost use Rattle.node.specs.Nodes.{withItem, lessItem, withKey, bothItems, partItems, halfItems};
 
 // The items of one node, or of two joined: keys, and values or children. Past the last all is 0.
 pub struct Items {
@@ -38,7 +35,7 @@ pub fn copied(a: [u32; 16], to: usize, b: [u32; 16], from: usize, n: usize) -> [
 // One item more, at place `at`.
 pub fn insert(items: Items, at: usize, key: u32, link: u32) -> Items
     requires { ⌜ (at < 16) × (items .count < 16) ⌝ }
-    ensures { λ r. ⌜ (r .count ≡ items .count + 1) × ((xs : List Item) → items ≡ itemsOf xs → at ≤ length xs → r ≡ itemsOf (insertAt at (key, link) xs)) ⌝ }
+    ensures { λ r. ⌜ r ≡ withItem items at key link ⌝ }
 {
     let mut keys = items.keys;
     let mut links = items.links;
@@ -64,8 +61,8 @@ fn without(a: [u32; 16], at: usize) -> [u32; 16]
 
 // Without the item at place `at`.
 pub fn remove(items: Items, at: usize) -> Items
-    requires { ⌜ (at < 16) × (1 ≤ items .count) × (items .count ≤ 16) ⌝ }
-    ensures { λ r. ⌜ (r .count ≡ items .count - 1) × ((xs : List Item) → items ≡ itemsOf xs → at < length xs → r ≡ itemsOf (removeAt at xs)) ⌝ }
+    requires { ⌜ (at < 16) × (1 ≤ items .count) ⌝ }
+    ensures { λ r. ⌜ r ≡ lessItem items at ⌝ }
 {
     let all_keys = items.keys;
     let all_links = items.links;
@@ -80,7 +77,7 @@ pub fn remove(items: Items, at: usize) -> Items
 
 // The first item's key becomes `key`.
 pub fn rekey(items: Items, key: u32) -> Items
-    ensures { λ r. ⌜ (r .count ≡ items .count) × ((xs : List Item) → items ≡ itemsOf xs → 1 ≤ length xs → r ≡ itemsOf (rekeyAt 0 key xs)) ⌝ }
+    ensures { λ r. ⌜ r ≡ withKey items key ⌝ }
 {
     let mut keys = items.keys;
     let links = items.links;
@@ -95,7 +92,7 @@ pub fn rekey(items: Items, key: u32) -> Items
 // The items of `a` and then those of `b`.
 pub fn append(a: Items, b: Items) -> Items
     requires { ⌜ a .count + b .count ≤ 16 ⌝ }
-    ensures { λ r. ⌜ (r .count ≡ a .count + b .count) × ((xs : List Item) (ys : List Item) → a ≡ itemsOf xs → b ≡ itemsOf ys → r ≡ itemsOf (xs ++ ys)) ⌝ }
+    ensures { λ r. ⌜ r ≡ bothItems a b ⌝ }
 {
     let m = a.count;
     let n = b.count;
@@ -115,7 +112,7 @@ pub fn append(a: Items, b: Items) -> Items
 // The `n` items from place `from` on.
 fn part(items: Items, from: usize, n: usize) -> Items
     requires { ⌜ from + n ≤ 16 ⌝ }
-    ensures { λ r. ⌜ (r .count ≡ n) × ((xs : List Item) → items ≡ itemsOf xs → from + n ≤ length xs → r ≡ itemsOf (take n (drop from xs))) ⌝ }
+    ensures { λ r. ⌜ r ≡ partItems items from n ⌝ }
 {
     let all_keys = items.keys;
     let all_links = items.links;
@@ -131,7 +128,7 @@ fn part(items: Items, from: usize, n: usize) -> Items
 // The key of the item at place `at`.
 fn key_at(items: Items, at: usize) -> u32
     requires { ⌜ at < 16 ⌝ }
-    ensures { λ r. ⌜ ((xs : List Item) → items ≡ itemsOf xs → r ≡ front (drop at xs)) ⌝ }
+    ensures { λ r. ⌜ r ≡ getD (items .keys) at 0 ⌝ }
 {
     let keys = items.keys;
     keys[at]
@@ -140,7 +137,7 @@ fn key_at(items: Items, at: usize) -> u32
 // Items cut in two after the first `l`.
 pub fn cut_at(items: Items, l: usize) -> Halves
     requires { ⌜ (l ≤ items .count) × (l < 16) × (items .count ≤ 16) ⌝ }
-    ensures { λ r. ⌜ (r .left .count ≡ l) × (r .right .count ≡ items .count - l) × ((us : List Item) → items ≡ itemsOf us → Halved l us r) ⌝ }
+    ensures { λ r. ⌜ r ≡ halfItems items l ⌝ }
 {
     let n = items.count;
     Halves {

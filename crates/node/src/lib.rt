@@ -1,15 +1,12 @@
 // One node of a tree, as its sixteen words by value.
 ghost use mathlib.Core.Path.{_≡_};
-ghost use mathlib.Core.List.{List, [], _∷_, _++_};
+ghost use mathlib.Core.List.{[], _∷_, _++_};
 ghost use Prim.Native.Nat.{suc, _+_, _-_, _≤_, _<_};
 ghost use lib.ListN.{getD};
-ghost use lib.Dec.{leb};
-ghost use mathlib.Core.Bool.{cond};
 ghost use Rattle.forest.specs.Lists.{insertAt};
-ghost use Rattle.forest.specs.Pairs.{Item};
 ghost use Rattle.forest.specs.Rows.{keeps};
 ghost use Rattle.forest.specs.Pools.{leafWords, innerWords};
-ghost use Rattle.node.specs.Nodes.{Leaf, Inner, leafPairs, innerItems, rekeyAt, statusOf, leafCut, innerCut, splitOf, balanceOf, itemsOf};
+ghost use Rattle.node.specs.Nodes.{Leaf, Inner, leafPairs, innerItems, rekeyAt, statusOf, leafCut, innerCut, splitOf, balanceOf, itemsOf, packed};
 
 pub mod items;
 
@@ -33,13 +30,11 @@ pub enum Removed {
     Empty,
 }
 
-// A full node with one entry more, in two: the right half's first key, whether the entry is in the right half, and its place in its half.
+// A full node with one entry more, in two, and the right half's first key.
 pub struct SplitOff {
     pub left: [u32; 16],
     pub right: [u32; 16],
     pub key: u32,
-    pub across: bool,
-    pub place: usize,
 }
 
 // A node that lost an entry.
@@ -111,7 +106,7 @@ fn inner_items(w: [u32; 16]) -> Items
 // The words of a leaf.
 fn leaf_words(items: Items) -> [u32; 16]
     requires { ⌜ items .count ≤ 7 ⌝ }
-    ensures { λ r. ⌜ ((xs : List Item) → items ≡ itemsOf xs → r ≡ leafWords xs) ⌝ }
+    ensures { λ r. ⌜ r ≡ packed 32 0 items ⌝ }
 {
     let count = items.count;
     let mut w = [0u32; 16];
@@ -125,7 +120,7 @@ fn leaf_words(items: Items) -> [u32; 16]
 // The words of an inner node.
 fn inner_words(items: Items) -> [u32; 16]
     requires { ⌜ (1 ≤ items .count) × (items .count ≤ 8) ⌝ }
-    ensures { λ r. ⌜ ((xs : List Item) → items ≡ itemsOf xs → r ≡ innerWords xs) ⌝ }
+    ensures { λ r. ⌜ r ≡ packed 15 1 items ⌝ }
 {
     let count = items.count;
     let mut w = [0u32; 16];
@@ -134,14 +129,6 @@ fn inner_words(items: Items) -> [u32; 16]
     let links = items.links;
     let k = copied(w, 1, keys, 1, 7);
     copied(k, 8, links, 0, 8)
-}
-
-// `key` and `value` at place `at` of a leaf with room.
-pub fn leaf_insert(w: [u32; 16], at: usize, key: u32, value: u32) -> [u32; 16]
-    requires { ⌜ Leaf w × (getD w 0 0 < 39) × (at ≤ getD w 0 0 - 32) ⌝ }
-    ensures { λ r. ⌜ r ≡ leafWords (insertAt at (key, value) (leafPairs w)) ⌝ }
-{
-    leaf_words(insert(leaf_items(w), at, key, value))
 }
 
 // `key` at place `index` of an inner node with room, and `node` right of it.
@@ -163,20 +150,10 @@ fn split_pos(len: usize, ins: usize) -> usize
     (len + 1) / 2
 }
 
-// Where place `at` is once the first `l` are cut off: its place in its half.
-fn place_in(l: usize, at: usize) -> usize
-    ensures { λ r. ⌜ r ≡ cond (leb l at) (at - l) at ⌝ }
-{
-    if l <= at {
-        return at - l;
-    }
-    at
-}
-
 // A full leaf cut in two, with `key` and `value` at place `at`.
 pub fn leaf_split(w: [u32; 16], at: usize, key: u32, value: u32) -> SplitOff
     requires { ⌜ Leaf w × (getD w 0 0 ≡ 39) × (at ≤ 7) ⌝ }
-    ensures { λ r. ⌜ r ≡ splitOf leafWords (keeps 7 at) at (insertAt at (key, value) (leafPairs w)) ⌝ }
+    ensures { λ r. ⌜ r ≡ splitOf leafWords (keeps 7 at) (insertAt at (key, value) (leafPairs w)) ⌝ }
 {
     let items = insert(leaf_items(w), at, key, value);
     let l = split_pos(7, at);
@@ -187,15 +164,13 @@ pub fn leaf_split(w: [u32; 16], at: usize, key: u32, value: u32) -> SplitOff
         left: leaf_words(left),
         right: leaf_words(right),
         key: parts.key,
-        across: l <= at,
-        place: place_in(l, at),
     }
 }
 
 // A full inner node cut in two, with `key` at place `index` and `node` right of it.
 pub fn inner_split(w: [u32; 16], index: usize, key: u32, node: u32) -> SplitOff
     requires { ⌜ Inner w × (getD w 0 0 ≡ 23) × (index < 8) ⌝ }
-    ensures { λ r. ⌜ r ≡ splitOf innerWords (keeps 8 (suc index)) (suc index) (insertAt (suc index) (key, node) (innerItems w)) ⌝ }
+    ensures { λ r. ⌜ r ≡ splitOf innerWords (keeps 8 (suc index)) (insertAt (suc index) (key, node) (innerItems w)) ⌝ }
 {
     let at = index + 1;
     let items = insert(inner_items(w), at, key, node);
@@ -207,8 +182,6 @@ pub fn inner_split(w: [u32; 16], index: usize, key: u32, node: u32) -> SplitOff
         left: inner_words(left),
         right: inner_words(right),
         key: parts.key,
-        across: l <= at,
-        place: place_in(l, at),
     }
 }
 

@@ -46,18 +46,19 @@ fn words(w: [u32; 16]) {
 }
 
 // A leaf of one pair.
-fn one_pair() -> [u32; 16]
+fn one_pair(key: u32, value: u32) -> [u32; 16]
     ensures { λ r. ⌜ Leaf r × (getD r 0 0 ≡ 33) ⌝ }
 {
-    node::leaf(10, 1)
+    node::leaf(key, value)
 }
 
-// A leaf of n pairs with one more.
+// A leaf of n pairs with one more behind them.
 fn next_pair(w: [u32; 16], n: usize) -> [u32; 16]
     requires { ⌜ Leaf w × (getD w 0 0 ≡ 32 + n) × (n < 7) ⌝ }
     ensures { λ r. ⌜ Leaf r × (getD r 0 0 ≡ 33 + n) ⌝ }
 {
-    node::leaf_insert(w, n, KEYS[n], LINKS[n])
+    let both = node::leaf_balance(w, one_pair(KEYS[n], LINKS[n]));
+    both.right
 }
 
 // A leaf of n pairs.
@@ -65,7 +66,7 @@ fn leaf_of(n: usize) -> [u32; 16]
     requires { ⌜ (1 ≤ n) × (n ≤ 7) ⌝ }
     ensures { λ r. ⌜ Leaf r × (getD r 0 0 ≡ 32 + n) ⌝ }
 {
-    let mut w = one_pair();
+    let mut w = one_pair(10, 1);
     let mut i = 1;
     while i < n {
         let more = next_pair(w, i);
@@ -129,8 +130,6 @@ fn split(s: node::SplitOff) {
     words(left);
     words(right);
     number(wide(s.key));
-    flag(s.across);
-    number(size(s.place));
     end();
 }
 
@@ -158,20 +157,6 @@ fn balanced(b: node::Balanced) {
     words(right);
     number(wide(b.key));
     flag(b.all);
-    end();
-}
-
-fn leaf_insert(n: usize, at: usize)
-    requires { ⌜ 1 ≤ n ⌝ }
-{
-    if 7 <= n {
-        return;
-    }
-    if n < at {
-        return;
-    }
-    title(b"leaf_insert", n, at);
-    words(node::leaf_insert(leaf_of(n), at, BETWEEN[at], 99));
     end();
 }
 
@@ -273,7 +258,6 @@ fn inner_balance(n: usize, m: usize)
 fn lines(n: usize, at: usize)
     requires { ⌜ 1 ≤ n ⌝ }
 {
-    leaf_insert(n, at);
     leaf_split(n, at);
     leaf_remove(n, at);
     leaf_balance(n, at);

@@ -8,7 +8,7 @@ use Rattle.grow.proofs.add.Tie as tie
 free-count-requires : tie.Need-free-count-requires
 free-count-requires c κs =
     let start = c .before .before in
-    Replacing.stack-in (start .args .ws .now) (start .args .t) (start .args .c .tree) (start .args .c .nodes) (start .args .c .places) (start .args .c .size - 1) (start .pre .1 .scene) (start .pre .1 .land .under)
+    Replacing.stack-in (start .args .ws .now) (start .args .t) (start .args .c .tree) (start .args .c .nodes) (start .args .c .places) (start .args .c .size - 1) (start .pre .1 .scene) (start .pre .1 .land .site .under)
 
 need-requires : tie.Need-need-requires
 need-requires c κs = search needs

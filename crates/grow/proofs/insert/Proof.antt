@@ -1,4 +1,4 @@
--- `grow::insert` meets its contract. A leaf with room, or one that is cut. Assumes nothing.
+-- `grow::insert` meets its contract. The leaf is cut, and the level above gets its right half. Assumes nothing.
 use mathlib.Core.Path.{_∙_}
 use Prim.Native.Nat.{_-_}
 use borrow.Author.Needs.{needs}
@@ -27,53 +27,40 @@ element-copy-out-at c = search needs
 cast-at : tie.Need-cast-at
 cast-at c = search needs
 
-try-leaf-insert-requires : tie.Need-try-leaf-insert-requires
-try-leaf-insert-requires c κs =
-    let start = c .before .before .before .before in
-    Landings.leaf-place (start .args .ws .now) (start .args .t) (start .args .t3 .tree) (start .args .t3 .nodes) (start .args .t3 .places) (start .args .t3 .size - 1) (start .pre .1 .scene) (start .pre .1 .entry) (start .pre .1 .landed .land)
-
-same-length : tie.Need-same-length
-same-length c = c .before .before .ws .given
-
-returns : tie.Need-returns
-returns c = λ s p g.
-    let start = c .before .before .before .before .before .before .before .before in
-    Landings.room-done (start .args .ws .now) (start .args .t) (start .args .t3 .tree) (start .args .t3 .nodes) (start .args .t3 .places) (start .args .t3 .size - 1) (start .args .key, start .args .value) (c .before .before .before .try-leaf-insert .last .0) (c .before .before .before .try-leaf-insert .result) (c .before .before .before .try-leaf-insert .ensures) (c .if1 .taken) s p (g .land)
-
 load-requires : tie.Need-load-requires
 load-requires c κs =
-    let start = c .before .before .before .before .before .before .before .before .before in
-    let fits = Landings.still-fits (start .args .ws .now) (start .args .t) (start .args .t3 .tree) (start .args .t3 .nodes) (start .args .t3 .places) (start .args .t3 .size - 1) (start .args .key, start .args .value) (c .before .before .before .before .try-leaf-insert .last .0) (c .before .before .before .before .try-leaf-insert .result) (c .before .before .before .before .try-leaf-insert .ensures) (c .before .if1 .left) (start .pre .1) in
-    Landings.leaf-placed (c .before .before .before .before .try-leaf-insert .last .0) (start .args .t) (start .args .t3 .tree) (start .args .t3 .nodes) (start .args .t3 .places) (start .args .t3 .size - 1) (fits .scene) (fits .entry) (fits .landed .land)
+    let start = c .before .before .before .before in
+    let fits = start .pre .1 in
+    Landings.leaf-placed (start .args .ws .now) (start .args .t) (start .args .t3 .tree) (start .args .t3 .nodes) (start .args .t3 .places) (start .args .t3 .size - 1) (fits .scene) (fits .entry) (fits .landed .land .site)
 
 leaf-split-requires : tie.Need-leaf-split-requires
 leaf-split-requires c κs =
-    let start = c .before .before .before .before .before .before .before .before .before .before in
-    let fits = Landings.still-fits (start .args .ws .now) (start .args .t) (start .args .t3 .tree) (start .args .t3 .nodes) (start .args .t3 .places) (start .args .t3 .size - 1) (start .args .key, start .args .value) (c .before .before .before .before .before .try-leaf-insert .last .0) (c .before .before .before .before .before .try-leaf-insert .result) (c .before .before .before .before .before .try-leaf-insert .ensures) (c .before .before .if1 .left) (start .pre .1) in
-    Landings.split-asks (c .before .before .before .before .before .try-leaf-insert .last .0) (start .args .t) (start .args .t3 .tree) (start .args .t3 .nodes) (start .args .t3 .places) (start .args .t3 .size - 1) (c .load .result) (c .load .ensures) (fits .scene) (fits .entry) (fits .landed .land) (Landings.full-word (start .args .ws .now) (start .args .t) (start .args .t3 .tree) (start .args .t3 .nodes) (start .args .t3 .places) (start .args .t3 .size - 1) (start .args .key, start .args .value) (c .before .before .before .before .before .try-leaf-insert .last .0) (c .before .before .before .before .before .try-leaf-insert .result) (c .before .before .before .before .before .try-leaf-insert .ensures) (c .before .before .if1 .left) (c .load .result) (c .load .ensures))
+    let start = c .before .before .before .before .before in
+    let fits = start .pre .1 in
+    Landings.split-asks (start .args .ws .now) (start .args .t) (start .args .t3 .tree) (start .args .t3 .nodes) (start .args .t3 .places) (start .args .t3 .size - 1) (c .load .result) (c .load .ensures) (fits .scene) (fits .entry) (fits .landed .land)
 
 cut-requires : tie.Need-cut-requires
 cut-requires c κs =
-    let start = c .before .before .before .before .before .before .before .before .before .before .before .before .before .before in
-    let fits = Landings.still-fits (start .args .ws .now) (start .args .t) (start .args .t3 .tree) (start .args .t3 .nodes) (start .args .t3 .places) (start .args .t3 .size - 1) (start .args .key, start .args .value) (c .before .before .before .before .before .before .before .before .before .try-leaf-insert .last .0) (c .before .before .before .before .before .before .before .before .before .try-leaf-insert .result) (c .before .before .before .before .before .before .before .before .before .try-leaf-insert .ensures) (c .before .before .before .before .before .before .if1 .left) (start .pre .1) in
-    Landings.cuts-asks (c .before .before .before .before .before .before .before .before .before .try-leaf-insert .last .0) (start .args .t) (start .args .t3 .tree) (start .args .t3 .nodes) (start .args .t3 .places) (start .args .t3 .size - 1) (c .before .before .before .before .load .result) (c .before .before .before .before .load .ensures) (start .args .key) (start .args .value) (c .before .before .before .leaf-split .result) (c .before .before .before .leaf-split .ensures) (Landings.full-word (start .args .ws .now) (start .args .t) (start .args .t3 .tree) (start .args .t3 .nodes) (start .args .t3 .places) (start .args .t3 .size - 1) (start .args .key, start .args .value) (c .before .before .before .before .before .before .before .before .before .try-leaf-insert .last .0) (c .before .before .before .before .before .before .before .before .before .try-leaf-insert .result) (c .before .before .before .before .before .before .before .before .before .try-leaf-insert .ensures) (c .before .before .before .before .before .before .if1 .left) (c .before .before .before .before .load .result) (c .before .before .before .before .load .ensures)) (fits .scene) (fits .entry) (fits .landed)
+    let start = c .before .before .before .before .before .before .before .before .before in
+    let fits = start .pre .1 in
+    Landings.cuts-asks (start .args .ws .now) (start .args .t) (start .args .t3 .tree) (start .args .t3 .nodes) (start .args .t3 .places) (start .args .t3 .size - 1) (c .before .before .before .before .load .result) (c .before .before .before .before .load .ensures) (start .args .key) (start .args .value) (c .before .before .before .leaf-split .result) (c .before .before .before .leaf-split .ensures) (fits .scene) (fits .entry) (fits .landed)
 
 split-and-insert-requires : tie.Need-split-and-insert-requires
 split-and-insert-requires c κs =
-    let start = c .before .before .before .before .before .before .before .before .before .before .before .before .before .before .before .before .before .before in
-    let fits = Landings.still-fits (start .args .ws .now) (start .args .t) (start .args .t3 .tree) (start .args .t3 .nodes) (start .args .t3 .places) (start .args .t3 .size - 1) (start .args .key, start .args .value) (c .before .before .before .before .before .before .before .before .before .before .before .before .before .try-leaf-insert .last .0) (c .before .before .before .before .before .before .before .before .before .before .before .before .before .try-leaf-insert .result) (c .before .before .before .before .before .before .before .before .before .before .before .before .before .try-leaf-insert .ensures) (c .before .before .before .before .before .before .before .before .before .before .if1 .left) (start .pre .1) in
+    let start = c .before .before .before .before .before .before .before .before .before .before .before .before .before in
+    let fits = start .pre .1 in
     record {
       scene = Landings.cutLeaf (fits .scene) (fits .entry) (start .args .key, start .args .value);
-      climb = Landings.climb-asks (c .before .before .before .before .before .before .before .before .before .before .before .before .before .try-leaf-insert .last .0) (start .args .t) (start .args .t3 .tree) (start .args .t3 .nodes) (start .args .t3 .places) (start .args .t3 .size - 1) (c .before .before .before .before .before .before .before .before .load .result) (c .before .before .before .before .before .before .before .before .load .ensures) (start .args .key) (start .args .value) (c .before .before .before .before .before .before .before .leaf-split .result) (c .before .before .before .before .before .before .before .leaf-split .ensures) (Landings.full-word (start .args .ws .now) (start .args .t) (start .args .t3 .tree) (start .args .t3 .nodes) (start .args .t3 .places) (start .args .t3 .size - 1) (start .args .key, start .args .value) (c .before .before .before .before .before .before .before .before .before .before .before .before .before .try-leaf-insert .last .0) (c .before .before .before .before .before .before .before .before .before .before .before .before .before .try-leaf-insert .result) (c .before .before .before .before .before .before .before .before .before .before .before .before .before .try-leaf-insert .ensures) (c .before .before .before .before .before .before .before .before .before .before .if1 .left) (c .before .before .before .before .before .before .before .before .load .result) (c .before .before .before .before .before .before .before .before .load .ensures)) (fits .scene) (fits .entry) (fits .landed) (c .before .before .before .cut .last .0) (c .before .before .before .cut .ensures .1);
+      climb = Landings.climb-asks (start .args .ws .now) (start .args .t) (start .args .t3 .tree) (start .args .t3 .nodes) (start .args .t3 .places) (start .args .t3 .size - 1) (c .before .before .before .before .before .before .before .before .load .result) (c .before .before .before .before .before .before .before .before .load .ensures) (start .args .key) (start .args .value) (c .before .before .before .before .before .before .before .leaf-split .result) (c .before .before .before .before .before .before .before .leaf-split .ensures) (fits .scene) (fits .entry) (fits .landed) (c .before .before .before .cut .last .0) (c .before .before .before .cut .ensures .1);
     }
 
-same-length-2 : tie.Need-same-length-2
-same-length-2 c = c .before .ws3 .given ∙ c .before .before .before .before .before .ws2 .given ∙ c .before .before .before .before .before .before .before .before .before .before .before .before .before .before .before .ws .given
+same-length : tie.Need-same-length
+same-length c = c .before .ws2 .given ∙ c .before .before .before .before .before .ws .given
 
-returns-2 : tie.Need-returns-2
-returns-2 c = λ s p g.
-    let start = c .before .before .before .before .before .before .before .before .before .before .before .before .before .before .before .before .before .before .before .before .before in
-    Landings.climb-done (c .before .before .before .before .before .before .before .before .before .before .before .before .before .before .before .before .try-leaf-insert .last .0) (start .args .t) (start .args .t3 .tree) (start .args .t3 .nodes) (start .args .t3 .places) (start .args .t3 .size - 1) (c .before .before .before .before .before .before .before .before .before .before .before .load .result) (c .before .before .before .before .before .before .before .before .before .before .before .load .ensures) (start .args .key) (start .args .value) (c .before .before .before .before .before .before .before .before .before .before .leaf-split .result) (c .before .before .before .before .before .before .before .before .before .before .leaf-split .ensures) (Landings.full-word (start .args .ws .now) (start .args .t) (start .args .t3 .tree) (start .args .t3 .nodes) (start .args .t3 .places) (start .args .t3 .size - 1) (start .args .key, start .args .value) (c .before .before .before .before .before .before .before .before .before .before .before .before .before .before .before .before .try-leaf-insert .last .0) (c .before .before .before .before .before .before .before .before .before .before .before .before .before .before .before .before .try-leaf-insert .result) (c .before .before .before .before .before .before .before .before .before .before .before .before .before .before .before .before .try-leaf-insert .ensures) (c .before .before .before .before .before .before .before .before .before .before .before .before .before .if1 .left) (c .before .before .before .before .before .before .before .before .before .before .before .load .result) (c .before .before .before .before .before .before .before .before .before .before .before .load .ensures)) s p (Landings.still-landed (start .args .ws .now) (start .args .t) (start .args .t3 .tree) (start .args .t3 .nodes) (start .args .t3 .places) (start .args .t3 .size - 1) (start .args .key, start .args .value) (c .before .before .before .before .before .before .before .before .before .before .before .before .before .before .before .before .try-leaf-insert .last .0) (c .before .before .before .before .before .before .before .before .before .before .before .before .before .before .before .before .try-leaf-insert .result) (c .before .before .before .before .before .before .before .before .before .before .before .before .before .before .before .before .try-leaf-insert .ensures) (c .before .before .before .before .before .before .before .before .before .before .before .before .before .if1 .left) s p g) (c .before .before .before .before .before .before .cut .last .0) (c .before .before .before .before .before .before .cut .ensures .1) (c .before .before .before .before .before .before .cut .result) (c .before .before .split-and-insert .last .0) (c .before .before .before .before .before .before .cut .ensures .0) (c .before .before .split-and-insert .ensures)
+returns : tie.Need-returns
+returns c = λ s p g.
+    let start = c .before .before .before .before .before .before .before .before .before .before .before .before .before .before .before .before in
+    Landings.climb-done (start .args .ws .now) (start .args .t) (start .args .t3 .tree) (start .args .t3 .nodes) (start .args .t3 .places) (start .args .t3 .size - 1) (c .before .before .before .before .before .before .before .before .before .before .before .load .result) (c .before .before .before .before .before .before .before .before .before .before .before .load .ensures) (start .args .key) (start .args .value) (c .before .before .before .before .before .before .before .before .before .before .leaf-split .result) (c .before .before .before .before .before .before .before .before .before .before .leaf-split .ensures) s p g (c .before .before .before .before .before .before .cut .last .0) (c .before .before .before .before .before .before .cut .ensures .1) (c .before .before .before .before .before .before .cut .result) (c .before .before .split-and-insert .last .0) (c .before .before .before .before .before .before .cut .ensures .0) (c .before .before .split-and-insert .ensures)
 
 pub insert-spec : {M : Type 1} → statement M
 insert-spec =
@@ -86,12 +73,9 @@ insert-spec =
     mul-at
     element-copy-out-at
     cast-at
-    try-leaf-insert-requires
-    same-length
-    returns
     load-requires
     leaf-split-requires
     cut-requires
     split-and-insert-requires
-    same-length-2
-    returns-2)
+    same-length
+    returns)

@@ -6,7 +6,9 @@ use native.Mathlib.Numerals.{add-one}
 use borrow.Author.Needs.{needs}
 use Rattle.forest.specs.Lists.{insertAt}
 use Rattle.forest.specs.Pools.{innerWords}
+use Rattle.forest.proofs.ListLaws.{length-insertAt}
 use Rattle.node.proofs.Words.{length-items}
+use Rattle.node.proofs.ItemLaws.{counted, insert-items, inner-packs}
 use Rattle.node.specs.Nodes.{innerItems}
 use Rattle.node.proofs.inner_insert.Statement.{statement}
 use Rattle.node.proofs.inner_insert.Tie as tie
@@ -21,12 +23,15 @@ insert-requires : tie.Need-insert-requires
 insert-requires c κs = search needs
 
 inner-words-requires : tie.Need-inner-words-requires
-inner-words-requires c κs = search needs
+inner-words-requires c κs = let n = counted (c .insert .ensures) in search needs
 
 returns : tie.Need-returns
 returns c =
-    c .inner-words .ensures (insertAt (c .before .before .before .args .index + 1) (c .before .before .before .args .key, c .before .before .before .args .node) (innerItems (c .before .before .before .args .w))) (c .before .insert .ensures .1 (innerItems (c .before .before .before .args .w)) (c .before .before .inner-items .ensures .1) (omega (arith, length-items (c .before .before .before .args .w))))
-    ∙ ap (λ (i : ℕ). innerWords (insertAt i (c .before .before .before .args .key, c .before .before .before .args .node) (innerItems (c .before .before .before .args .w)))) (add-one (c .before .before .before .args .index))
+    let start = c .before .before .before in
+    let xs = innerItems (start .args .w) in
+    let held = c .before .insert .ensures ∙ insert-items (c .before .before .inner-items .result) (start .args .index + 1) (start .args .key) (start .args .node) xs (c .before .before .inner-items .ensures .1) (omega arith) (omega (arith, length-items (start .args .w))) in
+    c .inner-words .ensures ∙ inner-packs (c .before .insert .result) (insertAt (start .args .index + 1) (start .args .key, start .args .node) xs) held (omega (arith, length-insertAt (start .args .index + 1) (start .args .key, start .args .node) xs))
+    ∙ ap (λ (i : ℕ). innerWords (insertAt i (start .args .key, start .args .node) xs)) (add-one (start .args .index))
 
 pub inner-insert-spec : {M : Type 1} → statement M
 inner-insert-spec =

@@ -1,7 +1,9 @@
 -- `node::inner_words` meets its contract. Assumes nothing.
-use mathlib.Core.Path.{refl}
+use mathlib.Core.Path.{ap, _∙_}
+use mathlib.Core.List.{List}
+use Prim.Native.Nat.{ℕ}
+use lib.Seq.{paste}
 use borrow.Author.Needs.{needs}
-use Rattle.node.proofs.ItemLaws.{inner-pack}
 use Rattle.node.proofs.inner_words.Statement.{statement}
 use Rattle.node.proofs.inner_words.Tie as tie
 
@@ -21,7 +23,7 @@ copied-requires-2 : tie.Need-copied-requires-2
 copied-requires-2 c κs = search needs
 
 returns : tie.Need-returns
-returns c xs e = inner-pack (c .before .before .before .before .args .items) _ (c .before .copied .result) (c .copied2 .result) xs (c .before .before .before .before .pre .0) refl (c .before .copied .ensures) (c .copied2 .ensures) e
+returns c = c .copied2 .ensures ∙ ap (λ (w : List ℕ). paste w 8 (c .before .before .before .before .args .items .links) 8) (c .before .copied .ensures)
 
 pub inner-words-spec : {M : Type 1} → statement M
 inner-words-spec =

@@ -1,7 +1,9 @@
 -- `node::leaf_words` meets its contract. Assumes nothing.
-use mathlib.Core.Path.{refl}
+use mathlib.Core.Path.{ap, _∙_}
+use mathlib.Core.List.{List}
+use Prim.Native.Nat.{ℕ}
+use lib.Seq.{paste}
 use borrow.Author.Needs.{needs}
-use Rattle.node.proofs.ItemLaws.{leaf-pack}
 use Rattle.node.proofs.leaf_words.Statement.{statement}
 use Rattle.node.proofs.leaf_words.Tie as tie
 
@@ -21,7 +23,7 @@ copied-requires-2 : tie.Need-copied-requires-2
 copied-requires-2 c κs = search needs
 
 returns : tie.Need-returns
-returns c xs e = leaf-pack (c .before .before .before .before .args .items) _ (c .before .copied .result) (c .copied2 .result) xs refl (c .before .copied .ensures) (c .copied2 .ensures) e
+returns c = c .copied2 .ensures ∙ ap (λ (w : List ℕ). paste w 8 (c .before .before .before .before .args .items .links) 8) (c .before .copied .ensures)
 
 pub leaf-words-spec : {M : Type 1} → statement M
 leaf-words-spec =

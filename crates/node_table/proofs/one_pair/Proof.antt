@@ -14,7 +14,7 @@ leaf-requires : tie.Need-leaf-requires
 leaf-requires c κs = search needs
 
 returns : tie.Need-returns
-returns c = subst⁻¹ (λ (v : List ℕ). Leaf v × (getD v 0 0 ≡ 33)) (c .leaf .ensures) (leaf-is ((10, 1) ∷ []) (omega arith) (omega arith), refl)
+returns c = subst⁻¹ (λ (v : List ℕ). Leaf v × (getD v 0 0 ≡ 33)) (c .leaf .ensures) (leaf-is ((c .before .args .key, c .before .args .value) ∷ []) (omega arith) (omega arith), refl)
 
 pub one-pair-spec : {M : Type 1} → statement M
 one-pair-spec = tie.close (tie.spec leaf-requires returns)

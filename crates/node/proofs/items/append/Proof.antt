@@ -1,7 +1,7 @@
 -- `node::items::append` meets its contract. Assumes nothing.
 use mathlib.Core.Path.{refl}
 use borrow.Author.Needs.{needs}
-use Rattle.node.proofs.ItemLaws.{append-items}
+use Rattle.node.proofs.ItemLaws.{items-eq}
 use Rattle.node.proofs.items.append.Statement.{statement}
 use Rattle.node.proofs.items.append.Tie as tie
 
@@ -15,7 +15,7 @@ add-t11 : tie.Need-add-t11
 add-t11 c = search needs
 
 returns : tie.Need-returns
-returns c = (refl, λ xs ys d e. append-items (c .before .before .before .before .before .before .args .a) (c .before .before .before .before .before .before .args .b) (c .before .copied .result) (c .copied2 .result) xs ys (c .before .copied .ensures) (c .copied2 .ensures) (c .before .before .before .before .before .before .pre) d e)
+returns c = items-eq refl (c .before .copied .ensures) (c .copied2 .ensures)
 
 pub append-spec : {M : Type 1} → statement M
 append-spec = tie.close (tie.spec copied-requires copied-requires-2 add-t11 returns)

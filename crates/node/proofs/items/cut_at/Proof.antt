@@ -1,7 +1,5 @@
 -- `node::items::cut_at` meets its contract. Assumes nothing.
-use mathlib.Core.Path.{refl}
 use borrow.Author.Needs.{needs}
-use Rattle.node.proofs.Steps.{halves-done}
 use Rattle.node.proofs.items.cut_at.Statement.{statement}
 use Rattle.node.proofs.items.cut_at.Tie as tie
 
@@ -18,12 +16,7 @@ key-at-requires : tie.Need-key-at-requires
 key-at-requires c κs = search needs
 
 returns : tie.Need-returns
-returns c = (
-  c .before .before .part .ensures .0,
-  c .before .part2 .ensures .0,
-  halves-done (c .before .before .before .args .items) (c .before .before .before .args .l) (c .before .before .before .args .items .count) (c .before .before .part .result) (c .before .part2 .result) (c .key-at .result) refl (c .before .before .before .pre .0)
-      (c .before .before .part .ensures .1) (c .before .part2 .ensures .1) (c .key-at .ensures),
-)
+returns c = cc
 
 pub cut-at-spec : {M : Type 1} → statement M
 cut-at-spec = tie.close (tie.spec part-requires sub-part part-requires-2 key-at-requires returns)

@@ -1,7 +1,7 @@
 -- `node::items::insert` meets its contract. Assumes nothing.
 use mathlib.Core.Path.{refl}
 use borrow.Author.Needs.{needs}
-use Rattle.node.proofs.ItemLaws.{insert-items}
+use Rattle.node.proofs.ItemLaws.{items-eq}
 use Rattle.node.proofs.items.insert.Statement.{statement}
 use Rattle.node.proofs.items.insert.Tie as tie
 
@@ -21,7 +21,7 @@ add-t12 : tie.Need-add-t12
 add-t12 c = search needs
 
 returns : tie.Need-returns
-returns c = (refl, λ xs e h. insert-items (c .before .before .before .before .before .before .before .before .before .args .items) (c .before .before .before .before .before .before .before .before .before .args .at) (c .before .before .before .before .before .before .before .before .before .args .key) (c .before .before .before .before .before .before .before .before .before .args .link) (c .before .before .before .before .before .slice-insert .last .0) (c .before .before .slice-insert2 .last .0) xs (c .before .before .before .before .before .slice-insert .ensures) (c .before .before .slice-insert2 .ensures) (c .before .before .before .before .before .before .before .before .before .pre .0) e h)
+returns c = items-eq refl (c .before .before .before .before .before .slice-insert .ensures) (c .before .before .slice-insert2 .ensures)
 
 pub insert-spec : {M : Type 1} → statement M
 insert-spec =

@@ -1,7 +1,7 @@
 -- `node::items::remove` meets its contract. Assumes nothing.
 use mathlib.Core.Path.{refl}
 use borrow.Author.Needs.{needs}
-use Rattle.node.proofs.ItemLaws.{remove-items}
+use Rattle.node.proofs.ItemLaws.{items-eq}
 use Rattle.node.proofs.items.remove.Statement.{statement}
 use Rattle.node.proofs.items.remove.Tie as tie
 
@@ -15,7 +15,7 @@ sub-t7 : tie.Need-sub-t7
 sub-t7 c = search needs
 
 returns : tie.Need-returns
-returns c = (refl, λ xs e h. remove-items (c .before .before .before .before .before .args .items) (c .before .before .before .before .before .args .at) (c .before .before .without .result) (c .before .without2 .result) xs (c .before .before .without .ensures) (c .before .without2 .ensures) (c .before .before .before .before .before .pre .2) e h)
+returns c = items-eq refl (c .before .before .without .ensures) (c .before .without2 .ensures)
 
 pub remove-spec : {M : Type 1} → statement M
 remove-spec = tie.close (tie.spec without-requires without-requires-2 sub-t7 returns)
