@@ -7,42 +7,56 @@ ghost use Rattle.requests.specs.Turns.{room, wantsOf, spoken};
 ghost use Rattle.requests.specs.Program.{Takes, Replays};
 use libc::STDIN_FILENO;
 use libc::STDOUT_FILENO;
+use requests::Got;
 use requests::Piece;
 use requests::Said;
 use requests::Stage;
 use requests::Taken;
+use requests::Told;
 
-// Reads the bytes of a stage: how many there were.
-fn fill(stage: Stage, bytes: &mut [u8]) -> usize
-    requires { ⌜ length (now bytes) ≡ wantsOf stage ⌝ }
-    ensures { λ r. ⌜ r ≤ wantsOf stage ⌝ }
+// Reads until the bytes are full or the input ends.
+fn fill(bytes: &mut [u8]) -> Got
+    ensures { λ r. ⌜ r .asked ≡ length (now (bytes .entry)) ⌝ }
+    ensures { λ r. ⌜ r .count ≤ r .asked ⌝ }
 {
-    io::read_full(STDIN_FILENO, bytes)
-}
-
-// What the stage wants is read, or all where there is less.
-fn read(stage: Stage) -> Piece
-    ensures { λ r. ⌜ r .count ≤ wantsOf stage ⌝ }
-    ensures { λ r. ⌜ r .count ≤ length (r .bytes) ⌝ }
-{
-    let mut bytes = [0u8; 16];
-    let wanted = requests::wants(stage);
-    let count = fill(stage, &mut bytes[..wanted]);
-    Piece {
-        bytes: bytes,
+    let count = io::read_full(STDIN_FILENO, bytes);
+    Got {
+        asked: bytes.len(),
         count: count,
     }
 }
 
-// Writes the text of what is said: whether all of it was taken.
-fn write(said: Said, text: &[u8]) -> bool
-    requires { ⌜ now text ≡ lines (spoken said) ⌝ }
+// What the stage wants is read, or all where there is less.
+fn read(stage: Stage) -> Piece
+    ensures { λ r. ⌜ r .got .asked ≡ wantsOf stage ⌝ }
+    ensures { λ r. ⌜ r .got .count ≤ r .got .asked ⌝ }
+    ensures { λ r. ⌜ r .got .count ≤ length (r .bytes) ⌝ }
 {
-    io::write_all(STDOUT_FILENO, text)
+    let mut bytes = [0u8; 16];
+    let wanted = requests::wants(stage);
+    let got = fill(&mut bytes[..wanted]);
+    Piece {
+        bytes: bytes,
+        got: got,
+    }
 }
 
-// What is said is written, or not.
-fn say(said: Said) -> bool {
+// Writes the text of what is said.
+fn write(said: Said, text: &[u8]) -> Told
+    requires { ⌜ now text ≡ lines (spoken said) ⌝ }
+    ensures { λ r. ⌜ r .said ≡ said ⌝ }
+{
+    let written = io::write_all(STDOUT_FILENO, text);
+    Told {
+        said: said,
+        written: written,
+    }
+}
+
+// What is said is made text and written.
+fn say(said: Said) -> Told
+    ensures { λ r. ⌜ r .said ≡ said ⌝ }
+{
     let mut text = [0u8; 24];
     let start = requests::write_said(&mut text, said);
     write(said, &text[start..])
@@ -56,11 +70,11 @@ fn turn(pool: &mut [u32], stage: Stage) -> Taken
     let piece = read(stage);
     let turn = requests::judge(pool, stage, piece);
     let said = turn.said;
-    let written = say(said);
+    let told = say(said);
     Taken {
         read: piece,
         turn: turn,
-        written: written,
+        told: told,
     }
 }
 

@@ -26,7 +26,7 @@ following-falls false s t h = omega arith
 
 pub takes-falls : (s next : Stage) (w : ℕ) (vs us : List ℕ) (e : Taken) → w ≡ wantsOf s → 0 < w → Takes s vs us e → next ≡ following e → rank next < rank s
 takes-falls s next w vs us e q h t n =
-    let falls = following-falls (e .written) s (e .turn .stage) (turned-falls s _ vs us _ (t .turned)) in
+    let falls = following-falls (e .told .written) s (e .turn .stage) (turned-falls s _ vs us _ (t .turned)) in
     rw n (omega (arith, wanting s w q h))
 
 -- some turns have led to the words vs, and d is the last
@@ -61,12 +61,12 @@ wants-none Stopped w e h = refl
 
 -- no more was read than the stage wants
 read-length : (s : Stage) (vs us : List ℕ) (d : Taken) → Takes s vs us d → length (bytesOf (d .read)) ≤ wantsOf s
-read-length s vs us d t = rw length-take (omega (arith, t .reads))
+read-length s vs us d t = rw length-take (omega (arith, t .asks, t .reads))
 
 -- a turn that another follows was written and had read all that its stage wants
 written-on : (s : Stage) (vs us : List ℕ) (d : Taken) → Takes s vs us d → 0 < wantsOf (following d) →
     (following d ≡ d .turn .stage) × (length (bytesOf (d .read)) ≡ wantsOf s)
-written-on s vs us d t h = elim (test (d .written)) [
+written-on s vs us d t h = elim (test (d .told .written)) [
   | isnt w ↦ absurd (let z : 0 < wantsOf Stopped = rw w at h in omega arith)
   | is w ↦
       let e : following d ≡ d .turn .stage = rw w in
@@ -89,7 +89,7 @@ run-on s vs us b text d t h r =
     let x = bytesOf (d .read) in
     let front : take (wantsOf s) (x ++ b) ≡ x = take-at x b (wantsOf s) (o .1) in
     let back : drop (wantsOf s) (x ++ b) ≡ b = drop-at x b (wantsOf s) (o .1) in
-    turned {s = s} {ws = vs} {vs = us} {b = x ++ b} {text = text} {r = d .turn} (rw front (t .turned)) (rw (back, ← (o .0)) r)
+    rw (t .tells) (turned {s = s} {ws = vs} {vs = us} {b = x ++ b} {text = text} {r = d .turn} (rw front (t .turned)) (rw (back, ← (o .0)) r))
 
 -- the last turn is a run
 run-last : (s : Stage) (vs us : List ℕ) (d : Taken) → Takes s vs us d → d .turn .stage ≡ Stopped → Run s vs (bytesOf (d .read)) (textOf d)
@@ -97,7 +97,7 @@ run-last s vs us d t e =
     let x = bytesOf (d .read) in
     let all : take (wantsOf s) x ≡ x = take-all (wantsOf s) x (read-length s vs us d t) in
     let end : Run (d .turn .stage) us (drop (wantsOf s) x) [] = rw e ended in
-    rw append-nil at (turned {s = s} {ws = vs} {vs = us} {b = x} {text = []} {r = d .turn} (rw all (t .turned)) end)
+    rw (t .tells) (rw append-nil at (turned {s = s} {ws = vs} {vs = us} {b = x} {text = []} {r = d .turn} (rw all (t .turned)) end))
 
 takings-on : {ws vs b text : List ℕ} {d : Taken} (c more : List ℕ) → Takings ws vs b text d → 0 < wantsOf (following d) →
     Run (following d) vs c more → Run Kind ws (b ++ c) (text ++ more)
@@ -109,7 +109,7 @@ takings-run (first t) e = run-last Kind _ _ _ t e
 takings-run (then k l t) e = takings-on _ _ k l (run-last _ _ _ _ t e)
 
 -- where the last turn was written, the text that was handed to the writer is the replay of the bytes that were read
-pub replays-text : (ws vs : List ℕ) (d : Taken) (r : Replays ws vs d) → room ≤ length ws → d .written ≡ true → r .text ≡ replay (r .bytes)
+pub replays-text : (ws vs : List ℕ) (d : Taken) (r : Replays ws vs d) → room ≤ length ws → d .told .written ≡ true → r .text ≡ replay (r .bytes)
 replays-text ws vs d r h w =
     let e : d .turn .stage ≡ Stopped = rw w at (r .ended) in
     run-replay ws (r .bytes) (r .text) h (takings-run (r .turns) e)

@@ -13,20 +13,22 @@ use Rattle.requests.specs.Turns.{wantsOf, spoken, Turned}
 
 -- the bytes that were read
 abbrev pub bytesOf : Piece → List ℕ
-bytesOf p = take (p .count) (p .bytes)
+bytesOf p = take (p .got .count) (p .bytes)
 
 -- the text that is handed to the writer
 abbrev pub textOf : Taken → List ℕ
-textOf d = lines (spoken (d .turn .said))
+textOf d = lines (spoken (d .told .said))
 
 -- what is read after a turn: nothing where what is said could not be written
 abbrev pub following : Taken → Stage
-following d = cond (d .written) (d .turn .stage) Stopped
+following d = cond (d .told .written) (d .turn .stage) Stopped
 
--- a turn taken at stage s: no more is read than the stage wants, and that is judged
+-- a turn taken at stage s: what the stage wants is asked for, what was got is judged, and what is to be said is said
 pub record Takes (s : Stage) (before after : List ℕ) (d : Taken) : Type 0 where
-  pub reads : d .read .count ≤ wantsOf s
+  pub asks : d .read .got .asked ≡ wantsOf s
+  pub reads : d .read .got .count ≤ d .read .got .asked
   pub turned : Turned s (bytesOf (d .read)) before after (d .turn)
+  pub tells : d .told .said ≡ d .turn .said
 
 -- turns from the first word on, each at the stage and on the words that the one before it left: the words, the bytes read, the text and the last turn
 pub data Takings (ws : List ℕ) : List ℕ → List ℕ → List ℕ → Taken → Type 0 where

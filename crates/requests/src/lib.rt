@@ -55,17 +55,29 @@ pub struct Turn {
     pub said: Said,
 }
 
-// What a turn has read: the first `count` of the bytes.
-pub struct Piece {
-    pub bytes: [u8; 16],
+// How many bytes a reading asked for, and how many it got.
+pub struct Got {
+    pub asked: usize,
     pub count: usize,
 }
 
-// A turn as it was taken: what was read, how it was judged, and whether what is said was written.
+// What a turn has read: the first of the bytes.
+pub struct Piece {
+    pub bytes: [u8; 16],
+    pub got: Got,
+}
+
+// What was said, and whether it was written.
+pub struct Told {
+    pub said: Said,
+    pub written: bool,
+}
+
+// A turn as it was taken: what was read, how it was judged, what was said.
 pub struct Taken {
     pub read: Piece,
     pub turn: Turn,
-    pub written: bool,
+    pub told: Told,
 }
 
 // Room for the largest pool.
@@ -259,11 +271,12 @@ fn step(space: &mut [u32], stage: Stage, b: &[u8]) -> Turn
 
 // The same of what was read.
 pub fn judge(space: &mut [u32], stage: Stage, read: Piece) -> Turn
-    requires { ⌜ read .count ≤ length (read .bytes) ⌝ }
+    requires { ⌜ read .got .count ≤ length (read .bytes) ⌝ }
     ensures { λ r. ⌜ Turned stage (bytesOf read) (now (space .entry)) (now (space .exit)) r ⌝ }
 {
     let bytes = read.bytes;
-    let count = read.count;
+    let got = read.got;
+    let count = got.count;
     step(space, stage, &bytes[..count])
 }
 
@@ -271,7 +284,8 @@ pub fn judge(space: &mut [u32], stage: Stage, read: Piece) -> Turn
 pub fn next(taken: Taken) -> Stage
     ensures { λ r. ⌜ r ≡ following taken ⌝ }
 {
-    if taken.written {
+    let told = taken.told;
+    if told.written {
         let turn = taken.turn;
         return turn.stage;
     }

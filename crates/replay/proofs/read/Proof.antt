@@ -22,12 +22,12 @@ asked : (c : tie.After-bytes) → length {A = ℕ} (take (c .before .wants .resu
 asked c = length-take-le _ _ (c .before .wants .ensures .1) ∙ c .before .wants .ensures .0
 
 fill-requires : tie.Need-fill-requires
-fill-requires c κs = asked c
+fill-requires c κs = search needs
 
 returns : tie.Need-returns
 returns c = (
-  c .before .fill .ensures,
-  simp length-append (omega (arith, c .before .fill .ensures, c .before .fill .kept .1 .0 ∙ asked (c .before .before))),
+  c .before .fill .ensures .0 ∙ asked (c .before .before),
+  (c .before .fill .ensures .1, simp length-append (omega (arith, c .before .fill .ensures, c .before .fill .kept .0))),
 )
 
 pub read-spec : {M : Type 1} → statement M

@@ -8,7 +8,7 @@ array-share-prefix-bytes : tie.Need-array-share-prefix-bytes
 array-share-prefix-bytes c = search needs
 
 slice-aggregate-step : tie.Need-slice-aggregate-step
-slice-aggregate-step c = sym (length-take-le _ _ (c .before .before .before .before .pre))
+slice-aggregate-step c = sym (length-take-le _ _ (c .before .before .before .before .before .pre))
 
 step-requires : tie.Need-step-requires
 step-requires c κs = search needs
