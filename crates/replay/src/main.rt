@@ -1,32 +1,98 @@
 // The replay program of document 01: standard input is read stage by stage, and what is said goes to standard output.
-ghost use Prim.Native.Nat.{_-_, _≤_};
-ghost use Rattle.requests.specs.Turns.{rank};
+ghost use mathlib.Core.Path.{_≡_};
+ghost use Prim.Native.Nat.{_≤_};
+ghost use lib.ListN.{length};
+ghost use Rattle.requests.specs.Text.{lines};
+ghost use Rattle.requests.specs.Turns.{room, wantsOf, spoken};
+ghost use Rattle.requests.specs.Program.{Takes, Replays};
 use libc::STDIN_FILENO;
 use libc::STDOUT_FILENO;
-use requests::ROOM;
+use requests::Got;
+use requests::Piece;
+use requests::Said;
 use requests::Stage;
+use requests::Taken;
+use requests::Told;
 
-// A turn: what the stage wants is read, judged and answered. What can't be written ends the replay.
-fn turn(pool: &mut [u32], stage: Stage) -> Stage
-    ensures { λ r. ⌜ rank r ≤ rank stage - 1 ⌝ }
+// Reads until the bytes are full or the input ends.
+fn fill(bytes: &mut [u8]) -> Got
+    ensures { λ r. ⌜ r .asked ≡ length (now (bytes .entry)) ⌝ }
+    ensures { λ r. ⌜ r .count ≤ r .asked ⌝ }
 {
-    let mut piece = [0u8; 16];
-    let wanted = requests::wants(stage);
-    let got = io::read_full(STDIN_FILENO, &mut piece[..wanted]);
-    let turn = requests::step(pool, stage, &piece[..got]);
-    let mut text = [0u8; 24];
-    let said = turn.said;
-    let start = requests::write_said(&mut text, said);
-    if !io::write_all(STDOUT_FILENO, &text[start..]) {
-        return Stage::Stopped;
+    let count = io::read_full(STDIN_FILENO, bytes);
+    Got {
+        asked: bytes.len(),
+        count: count,
     }
-    turn.stage
+}
+
+// What the stage wants is read, or all where there is less.
+fn read(stage: Stage) -> Piece
+    ensures { λ r. ⌜ r .got .asked ≡ wantsOf stage ⌝ }
+    ensures { λ r. ⌜ r .got .count ≤ r .got .asked ⌝ }
+    ensures { λ r. ⌜ r .got .count ≤ length (r .bytes) ⌝ }
+{
+    let mut bytes = [0u8; 16];
+    let wanted = requests::wants(stage);
+    let got = fill(&mut bytes[..wanted]);
+    Piece {
+        bytes: bytes,
+        got: got,
+    }
+}
+
+// Writes the text of what is said.
+fn write(said: Said, text: &[u8]) -> Told
+    requires { ⌜ now text ≡ lines (spoken said) ⌝ }
+    ensures { λ r. ⌜ r .said ≡ said ⌝ }
+{
+    let written = io::write_all(STDOUT_FILENO, text);
+    Told {
+        said: said,
+        written: written,
+    }
+}
+
+// What is said is made text and written.
+fn say(said: Said) -> Told
+    ensures { λ r. ⌜ r .said ≡ said ⌝ }
+{
+    let mut text = [0u8; 24];
+    let start = requests::write_said(&mut text, said);
+    write(said, &text[start..])
+}
+
+// A turn: what the stage wants is read, judged and answered.
+fn turn(pool: &mut [u32], stage: Stage) -> Taken
+    requires { ⌜ room ≤ length (now pool) ⌝ }
+    ensures { λ r. ⌜ Takes stage (now (pool .entry)) (now (pool .exit)) r ⌝ }
+{
+    let piece = read(stage);
+    let turn = requests::judge(pool, stage, piece);
+    let said = turn.said;
+    let told = say(said);
+    Taken {
+        read: piece,
+        turn: turn,
+        told: told,
+    }
+}
+
+// The turns from the first word on, until nothing more is read: the last.
+fn run(pool: &mut [u32]) -> Taken
+    requires { ⌜ room ≤ length (now pool) ⌝ }
+    ensures { λ r. ⌜ Replays (now (pool .entry)) (now (pool .exit)) r ⌝ }
+{
+    let mut taken = turn(pool, Stage::Kind);
+    let mut stage = requests::next(taken);
+    while requests::wants(stage) > 0 {
+        taken = turn(pool, stage);
+        stage = requests::next(taken);
+    }
+    taken
 }
 
 fn main() {
-    let mut pool = [0u32; ROOM];
-    let mut stage = Stage::Kind;
-    while requests::wants(stage) > 0 {
-        stage = turn(&mut pool, stage);
-    }
+    let mut pool = requests::space();
+    run(&mut pool);
 }

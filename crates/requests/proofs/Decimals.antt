@@ -96,6 +96,10 @@ nothing-said s l q h = rw (q, take-all 24 l (omega arith), append-nil)
 pub line-said : (s : Said) (a : Answer) (l t : List ℕ) (r : ℕ) → s ≡ Line a → t ≡ take r l ++ line a → t ≡ take r l ++ lines (spoken s)
 line-said s a l t r q e = rw (q, append-nil) e
 
+-- the text stands from where it starts
+pub from-start : (l x text : List ℕ) (r : ℕ) → length l ≡ 24 → r ≤ 24 → x ≡ take r l ++ text → drop r x ≡ text
+from-start l x text r n h e = rw e (drop-at (take r l) text r (length-take-le r l (omega arith)))
+
 -- The text of a number is right
 
 -- a text of digits read, after a number

@@ -3,9 +3,9 @@ use mathlib.Core.Path.{_≡_, ap, _∙_}
 use mathlib.Core.List.{List, _++_}
 use Prim.Native.Nat.{ℕ, zero, suc, _+_, _-_, _≤_, _<_, min}
 use native.Mathlib.Omega.{arith}
-use lib.Dec.{leb, eqb}
+use lib.Dec.{ltb, leb, eqb}
 use lib.ListN.{length, take, drop}
-use borrow.Author.Tests.{leb-true}
+use borrow.Author.Tests.{ltb-true, ltb-false, leb-true}
 use Rattle.forest.specs.declared.Answer.{Answer}
 use Rattle.forest.specs.declared.Reply.{Reply}
 use Rattle.forest.specs.Answers.{answerOf}
@@ -86,6 +86,12 @@ module _ (s : Stage) (b before after : List ℕ) (r : Turn) (w : ℕ) (e : w ≡
     record { early-turn = λ z. absurd (omega arith); early-words = λ z. absurd (omega arith); whole = λ z. rw q j },
     rw q (judged-falls t b before after r j),
   )
+
+pub turned-falls : (s : Stage) (b before after : List ℕ) (r : Turn) → Turned s b before after r → rank (r .stage) ≤ rank s - 1
+turned-falls s b before after r t = elim (test (ltb (length b) (wantsOf s))) [
+  | is e ↦ rw (t .early-turn (ltb-true _ _ e)) (omega arith)
+  | isnt e ↦ judged-falls s b before after r (t .whole (ltb-false _ _ e))
+]
 
 -- a stage that wants something has a turn left
 pub wanting : (s : Stage) (w : ℕ) → w ≡ wantsOf s → 0 < w → 1 ≤ rank s

@@ -5,3 +5,4 @@ pub mod Whole
 pub mod Settled
 pub mod AnyRun
 pub mod Trials
+pub mod Program

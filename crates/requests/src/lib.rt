@@ -8,15 +8,16 @@ ghost use Rattle.forest.specs.Answers.{answerOf};
 ghost use Rattle.forest.specs.Answers.{refusal as refusal-of};
 ghost use Rattle.requests.specs.Text.{digitsOf, line, lines};
 ghost use Rattle.requests.specs.Replay.{wordAt, asked};
-ghost use Rattle.requests.specs.Turns.{wantsOf, spoken, goes, stops, asking, afterKind, afterFormat, afterCount};
+ghost use Rattle.requests.specs.Turns.{room, wantsOf, spoken, goes, stops, asking, afterKind, afterFormat, afterCount};
 ghost use Rattle.requests.specs.Turns.{Heeds, Sized, Requested, Turned, rank};
+ghost use Rattle.requests.specs.Program.{bytesOf, following};
 use forest::Answer;
 use forest::MAX_NODES;
 use forest::MAX_TREES;
 use forest::Reply;
 
 // The words of the largest pool.
-pub const ROOM: usize = MAX_TREES as usize + 17 * MAX_NODES as usize + 3;
+const ROOM: usize = MAX_TREES as usize + 17 * MAX_NODES as usize + 3;
 // The first word of a delivery.
 const KIND: u32 = 2;
 // Requests of a delivery at most.
@@ -52,6 +53,38 @@ pub enum Said {
 pub struct Turn {
     pub stage: Stage,
     pub said: Said,
+}
+
+// How many bytes a reading asked for, and how many it got.
+pub struct Got {
+    pub asked: usize,
+    pub count: usize,
+}
+
+// What a turn has read: the first of the bytes.
+pub struct Piece {
+    pub bytes: [u8; 16],
+    pub got: Got,
+}
+
+// What was said, and whether it was written.
+pub struct Told {
+    pub said: Said,
+    pub written: bool,
+}
+
+// A turn as it was taken: what was read, how it was judged, what was said.
+pub struct Taken {
+    pub read: Piece,
+    pub turn: Turn,
+    pub told: Told,
+}
+
+// Room for the largest pool.
+pub fn space() -> [u32; ROOM]
+    ensures { λ r. ⌜ length r ≡ room ⌝ }
+{
+    [0; ROOM]
 }
 
 // The bytes that a stage reads.
@@ -220,7 +253,7 @@ fn after_request(space: &mut [u32], words: usize, more: u32, b: &[u8]) -> Turn
 }
 
 // A turn: what the stage has read is judged. Where b is shorter than the stage wants, the input ended early.
-pub fn step(space: &mut [u32], stage: Stage, b: &[u8]) -> Turn
+fn step(space: &mut [u32], stage: Stage, b: &[u8]) -> Turn
     ensures turned { λ r. ⌜ Turned stage (now (b .entry)) (now (space .entry)) (now (space .exit)) r ⌝ }
     ensures falls { λ r. ⌜ rank (r .stage) ≤ rank stage - 1 ⌝ }
 {
@@ -234,6 +267,29 @@ pub fn step(space: &mut [u32], stage: Stage, b: &[u8]) -> Turn
         Stage::Request(words, more) => after_request(space, words, more, b),
         Stage::Stopped => go(Stage::Stopped),
     }
+}
+
+// The same of what was read.
+pub fn judge(space: &mut [u32], stage: Stage, read: Piece) -> Turn
+    requires { ⌜ read .got .count ≤ length (read .bytes) ⌝ }
+    ensures { λ r. ⌜ Turned stage (bytesOf read) (now (space .entry)) (now (space .exit)) r ⌝ }
+{
+    let bytes = read.bytes;
+    let got = read.got;
+    let count = got.count;
+    step(space, stage, &bytes[..count])
+}
+
+// What is read after a turn: nothing where what is said could not be written.
+pub fn next(taken: Taken) -> Stage
+    ensures { λ r. ⌜ r ≡ following taken ⌝ }
+{
+    let told = taken.told;
+    if told.written {
+        let turn = taken.turn;
+        return turn.stage;
+    }
+    Stage::Stopped
 }
 
 // The decimal digits of n, at most `most` of them, before place `at`: where they start. What stands before them stays.
@@ -290,6 +346,7 @@ fn write_text(out: &mut [u8], said: Said) -> usize
 pub fn write_said(out: &mut [u8; 24], said: Said) -> usize
     ensures text { λ r. ⌜ now (out .exit) ≡ take r (now (out .entry)) ++ lines (spoken said) ⌝ }
     ensures start { λ r. ⌜ (r ≤ 24) × (length (now (out .exit)) ≡ 24) ⌝ }
+    ensures told { λ r. ⌜ drop r (now (out .exit)) ≡ lines (spoken said) ⌝ }
 {
     write_text(out, said)
 }
