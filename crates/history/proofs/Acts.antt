@@ -28,7 +28,7 @@ use Rattle.forest.proofs.CursorCalls.{move-done, move-refused, move-reads}
 use Rattle.forest.proofs.MoveLaws.{barred, move-free}
 use Rattle.forest.proofs.RemoveLaws.{remove-goes}
 use Rattle.forest.proofs.PromiseLaws.{calls-by, moves-by}
-use Rattle.history.specs.Histories.{Act, ask, least, actAnswer, actPool, acts, Made, by-key, took, sought, led, Ran, no-calls, one, moved, unformatted, ranWords, AllSound, ownOf, answersOf}
+use Rattle.history.specs.Histories.{Act, ask, least, actAnswer, actPool, actKind, Made, by-key, took, sought, led, Ran, no-calls, one, moved, unformatted, ranWords, AllSound, ownOf, answersOf}
 use Rattle.history.proofs.Spots.{done-kept}
 
 -- first is refused for its tree number alone
@@ -105,18 +105,18 @@ module _ (m : ℕ) (lo : 1 ≤ m) (hi : m ≤ 4) where
   act-formed (ask c) p w = call-formed m lo hi c p w
   act-formed (least t) p w = w
 
-  pub acts-formed : (cs : List Act) (p : Pool) → WellFormed m p → WellFormed m (finally acts cs p)
+  pub acts-formed : (cs : List Act) (p : Pool) → WellFormed m p → WellFormed m (finally actKind cs p)
   acts-formed [] p w = w
   acts-formed (a ∷ cs) p w = acts-formed cs (actPool a p) (act-formed a p w)
 
   -- a history on the words of a pool is the acts on the pool
-  pub ran-words : {cs : List Act} {ws vs : List ℕ} {rs : List Reply} → Ran m cs ws vs rs → (p : Pool) → WellFormed m p → encode p ≡ ws → encode (finally acts cs p) ≡ vs
+  pub ran-words : {cs : List Act} {ws vs : List ℕ} {rs : List Reply} → Ran m cs ws vs rs → (p : Pool) → WellFormed m p → encode p ≡ ws → encode (finally actKind cs p) ≡ vs
   ran-words no-calls p w e = e
   ran-words (one {a = a} k h) p w e = ran-words h (actPool a p) (act-formed a p w) (made-words k p w e)
   ran-words (moved k q h) p w e = ran-words h p w (e ∙ sym q)
   ran-words (unformatted T N q h) p w e = ran-words h p w e
 
-  pub ran-answers : {cs : List Act} {ws vs : List ℕ} {rs : List Reply} → Ran m cs ws vs rs → (p : Pool) → WellFormed m p → encode p ≡ ws → replies acts cs p ≡ rs
+  pub ran-answers : {cs : List Act} {ws vs : List ℕ} {rs : List Reply} → Ran m cs ws vs rs → (p : Pool) → WellFormed m p → encode p ≡ ws → replies actKind cs p ≡ rs
   ran-answers no-calls p w e = refl
   ran-answers (one {a = a} k h) p w e = cons-eq (made-answer k p w e) (ran-answers h (actPool a p) (act-formed a p w) (made-words k p w e))
   ran-answers (moved k q h) p w e = ran-answers h p w (e ∙ sym q)
@@ -145,19 +145,19 @@ module _ (m : ℕ) (lo : 1 ≤ m) (hi : m ≤ 4) where
   act-made (ask c) p w = by-key (calls-by m lo c (encode p) (encode ((call c p) .pool)) ((call c p) .answer) (record { pool = p; formed = w; same = refl }) refl refl)
   act-made (least t) p w = first-made t p w
 
-  pub ran : (cs : List Act) (p : Pool) → WellFormed m p → Ran m cs (encode p) (encode (finally acts cs p)) (replies acts cs p)
+  pub ran : (cs : List Act) (p : Pool) → WellFormed m p → Ran m cs (encode p) (encode (finally actKind cs p)) (replies actKind cs p)
   ran [] p w = no-calls
   ran (a ∷ cs) p w = one (act-made a p w) (ran cs (actPool a p) (act-formed a p w))
 
   -- struck out by the answers is struck out by the pool
-  pub own-same : (t : ℕ) (cs : List Act) (p : Pool) → ownOf t cs (replies acts cs p) ≡ ownCalls acts t cs p
+  pub own-same : (t : ℕ) (cs : List Act) (p : Pool) → ownOf t cs (replies actKind cs p) ≡ ownCalls actKind t cs p
   own-same t [] p = refl
   own-same t (a ∷ cs) p = rw (own-same t cs (actPool a p))
 
-  pub answers-same : (t : ℕ) (cs : List Act) (p : Pool) → answersOf t cs (replies acts cs p) ≡ ownReplies acts t cs p
+  pub answers-same : (t : ℕ) (cs : List Act) (p : Pool) → answersOf t cs (replies actKind cs p) ≡ ownReplies actKind t cs p
   answers-same t [] p = refl
   answers-same t (a ∷ cs) p = rw (answers-same t cs (actPool a p))
 
-  pub kept-done : (cs : List Act) (p : Pool) → AllKept acts cs p → AllDone (replies acts cs p)
+  pub kept-done : (cs : List Act) (p : Pool) → AllKept actKind cs p → AllDone (replies actKind cs p)
   kept-done [] p a = tt
   kept-done (c ∷ cs) p a = (a .0, kept-done cs (actPool c p) (a .1))

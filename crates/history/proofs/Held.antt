@@ -21,7 +21,7 @@ use Rattle.forest.proofs.RunLaws.{run-formed}
 use Rattle.forest.proofs.PromiseLaws.{calls-by, moves-by}
 use Rattle.forest.proofs.Premises.{pool, pool-formed, cursor}
 use Rattle.forest.proofs.Trials.{steps}
-use Rattle.history.specs.Holdings.{Holds, StandsAt, Whole, TakesOut}
+use Rattle.history.specs.Holdings.{HoldsPairs, StandsAt, Whole, TakesOut}
 use Rattle.history.proofs.Holdings.{put-again}
 use Rattle.history.proofs.Places.{remove-at-holds}
 
@@ -49,10 +49,10 @@ pub two-lists : (pairs (treeOf pool 0) ≡ nine) × (pairs (treeOf pool 1) ≡ (
 unfolding steps
 two-lists = (refl, refl)
 
-abbrev pub nine-held : Holds leafLeast words 0 nine
+abbrev pub nine-held : HoldsPairs leafLeast words 0 nine
 nine-held = record { sound = record { pool = pool; formed = pool-formed; same = refl }; there = two-trees .0; same = two-lists .0 }
 
-pub one-held : (_≢_ {A = ℕ} 1 0) × Holds leafLeast words 1 ((5, 1) ∷ [])
+pub one-held : (_≢_ {A = ℕ} 1 0) × HoldsPairs leafLeast words 1 ((5, 1) ∷ [])
 one-held = (λ e. omega arith, record { sound = record { pool = pool; formed = pool-formed; same = refl }; there = two-trees .1; same = two-lists .1 })
 
 -- two trees, and no third
@@ -96,7 +96,7 @@ pub crowded-there : 0 < length (crowded .trees)
 unfolding steps
 crowded-there = omega arith
 
-abbrev pub crowded-held : Holds leafLeast (encode crowded) 0 (pairs (treeOf crowded 0))
+abbrev pub crowded-held : HoldsPairs leafLeast (encode crowded) 0 (pairs (treeOf crowded 0))
 crowded-held = record {
   sound = record { pool = crowded; formed = run-formed leafLeast (omega arith) (omega arith) more pool pool-formed; same = refl };
   there = crowded-there;

@@ -30,7 +30,7 @@ use Rattle.forest.proofs.WordLaws.{first-word}
 use Rattle.forest.proofs.UniqueLaws.{sound-pool}
 use Rattle.sound.specs.Checks.{checked}
 use Rattle.sound.proofs.CheckSteps.{exact}
-use Rattle.history.specs.Holdings.{Holds, Listed, Does, Filed, filed, no-room}
+use Rattle.history.specs.Holdings.{HoldsPairs, Listed, Does, Filed, filed, no-room}
 
 -- words are sound or not: the check decides
 pub data Decided (ws : List ℕ) : Type 0 where
@@ -51,11 +51,11 @@ trees-word s = ap (λ (u : List ℕ). getD u 0 0) (sym (s .same)) ∙ first-word
 
 module _ (m : ℕ) (lo : 1 ≤ m) {ws : List ℕ} {t : ℕ} where
   -- words hold one list in a tree
-  pub one-list : {xs ys : List Item} → Holds m ws t xs → Holds m ws t ys → xs ≡ ys
+  pub one-list : {xs ys : List Item} → HoldsPairs m ws t xs → HoldsPairs m ws t ys → xs ≡ ys
   one-list a b = sym (a .same) ∙ ap (λ (p : Pool). pairs (treeOf p t)) (sound-pool m ws lo (a .sound) (b .sound)) ∙ b .same
 
   -- its keys rise strictly
-  pub holds-rising : {xs : List Item} → Holds m ws t xs → Rising xs
+  pub holds-rising : {xs : List Item} → HoldsPairs m ws t xs → Rising xs
   holds-rising h = subst Rising (h .same) (rising (treeOf (h .sound .pool) t) (good-at m (h .sound .pool .trees) t (h .sound .formed .good)))
     where
       rising : (x : Tree) → Good m leafCap x → Rising (pairs x)
@@ -88,7 +88,7 @@ module _ (m : ℕ) (lo : 1 ≤ m) (hi : m ≤ 4) {c : Call} {ws us : List ℕ} {
   words-by s e = sym (k .sound-words (s .pool) (s .formed) (s .same)) ∙ ap encode e ∙ s .same
 
   -- a call that the pool does not refuse, and one that it does
-  pub does-by : {xs : List Item} (h : Holds m ws (target c) xs) → refused c (h .sound .pool) ≡ none → Does m c us r xs
+  pub does-by : {xs : List Item} (h : HoldsPairs m ws (target c) xs) → refused c (h .sound .pool) ≡ none → Does m c us r xs
   does-by h e =
       let p = h .sound .pool in
       record {
@@ -106,11 +106,11 @@ module _ (m : ℕ) (lo : 1 ≤ m) (hi : m ≤ 4) {c : Call} {ws us : List ℕ} {
       (sym (answered s) ∙ ap (λ z. z .answer) d, words-by s (ap (λ z. z .pool) d))
 
   -- DEMAND 2, on words: a call that is not refused answers the value held, and the words then hold the list that it makes
-  pub call-holds : {xs : List Item} → Holds m ws (target c) xs → kept r ≡ true → Does m c us r xs
+  pub call-holds : {xs : List Item} → HoldsPairs m ws (target c) xs → kept r ≡ true → Does m c us r xs
   call-holds h e = does-by h (free-kept c (h .sound .pool) (ap kept (answered (h .sound)) ∙ e))
 
   -- other trees keep their list, whatever it answers
-  pub other-holds : {s : ℕ} {ys : List Item} → s ≢ target c → Holds m ws s ys → Holds m us s ys
+  pub other-holds : {s : ℕ} {ys : List Item} → s ≢ target c → HoldsPairs m ws s ys → HoldsPairs m us s ys
   other-holds {s} n h = record {
     sound = after-call (h .sound);
     there = rw (same-trees c (h .sound .pool)) (h .there);
@@ -145,23 +145,23 @@ missing x (y ∷ ys) e = elim (test (eqb x (y .0))) [
 
 module _ (m : ℕ) (lo : 1 ≤ m) (hi : m ≤ 4) {t x : ℕ} {ws us : List ℕ} {r : Reply} {xs : List Item} where
   -- get: done, and no word changes
-  pub get-holds : Calls m (get t x) ws us r → Holds m ws t xs → Does m (get t x) us r xs × (us ≡ ws)
+  pub get-holds : Calls m (get t x) ws us r → HoldsPairs m ws t xs → Does m (get t x) us r xs × (us ≡ ws)
   get-holds k h = (
     does-by m lo hi k h (call-free (get t x) (h .sound .pool) (record { there = h .there; enough = omega arith })),
     words-by m lo hi k (h .sound) (get-same t x (h .sound .pool)),
   )
 
   -- remove: done
-  pub remove-holds : Calls m (remove t x) ws us r → Holds m ws t xs → Does m (remove t x) us r xs
+  pub remove-holds : Calls m (remove t x) ws us r → HoldsPairs m ws t xs → Does m (remove t x) us r xs
   remove-holds k h = does-by m lo hi k h (call-free (remove t x) (h .sound .pool) (record { there = h .there; enough = omega arith }))
 
   -- of a key that is not there no word changes
-  pub remove-missing : Calls m (remove t x) ws us r → Holds m ws t xs → lookup x xs ≡ none → us ≡ ws
+  pub remove-missing : Calls m (remove t x) ws us r → HoldsPairs m ws t xs → lookup x xs ≡ none → us ≡ ws
   remove-missing k h e =
       let n : has x (pairs (treeOf (h .sound .pool) t)) ≡ false = ap (has x) (h .same) ∙ missing x xs e in
       words-by m lo hi k (h .sound) (ap (λ z. z .pool) (remove-absent m lo t x (h .sound .pool) (h .sound .formed) (h .there) n))
 
-  module _ {v : ℕ} (k : Calls m (put t x v) ws us r) (h : Holds m ws t xs) where
+  module _ {v : ℕ} (k : Calls m (put t x v) ws us r) (h : HoldsPairs m ws t xs) where
     -- put: done, or refused for room
     pub put-holds : Filed m t x v ws us r xs
     put-holds = elim (test (ltb (length (h .sound .pool .free)) (need leafCap x (treeOf (h .sound .pool) t)))) [

@@ -15,7 +15,7 @@ use Rattle.forest.proofs.KindLaws.{ByShape, alone}
 use Rattle.forest.proofs.RunLaws.{Room, calls-by-shape, fresh-room}
 use Rattle.forest.proofs.CountLaws.{fresh-formed}
 use Rattle.forest.proofs.CursorCalls.{move-done}
-use Rattle.history.specs.Histories.{Act, ask, least, actTree, actAnswer, actPool, acts, Ran, ownOf, answersOf, Independent}
+use Rattle.history.specs.Histories.{Act, ask, least, actTree, actAnswer, actPool, actKind, Ran, ownOf, answersOf, Independent}
 use Rattle.history.proofs.Acts.{first-kept, first-there, kept-first, least-by, ran-words, ran-answers, acts-formed, ran, own-same, answers-same, kept-done}
 
 module _ (m : ℕ) (lo : 1 ≤ m) (hi : m ≤ 4) where
@@ -62,7 +62,7 @@ module _ (m : ℕ) (lo : 1 ≤ m) (hi : m ≤ 4) where
   room-other (ask c) t p q w e = by-calls .room-other c t p q w e
   room-other (least s) t p q w e = w
 
-  pub acts-by-shape : ByShape acts (λ p t. shape (treeOf p t)) (Room m lo hi)
+  pub acts-by-shape : ByShape actKind (λ p t. shape (treeOf p t)) (Room m lo hi)
   acts-by-shape = record {
     says = actSays;
     makes = actMakes;
@@ -80,21 +80,21 @@ module _ (m : ℕ) (lo : 1 ≤ m) (hi : m ≤ 4) where
       Ran m cs (encode (fresh T N)) vs rs → Independent m t (encode (fresh T N)) cs vs rs
   independent T N one-tree few-trees few-nodes t cs vs rs h =
       let f : WellFormed m (fresh T N) = fresh-formed m T N one-tree few-trees few-nodes in
-      let d = alone acts (λ p t. shape (treeOf p t)) (Room m lo hi) acts-by-shape t cs (fresh T N) (fresh T N) (fresh-room m lo hi T N one-tree few-trees few-nodes t) refl in
-      let a : replies acts cs (fresh T N) ≡ rs = ran-answers m lo hi h (fresh T N) f refl in
-      let o : ownOf t cs rs ≡ ownCalls acts t cs (fresh T N) = ap (ownOf t cs) (sym a) ∙ own-same m lo hi t cs (fresh T N) in
-      let b : answersOf t cs rs ≡ ownReplies acts t cs (fresh T N) = ap (answersOf t cs) (sym a) ∙ answers-same m lo hi t cs (fresh T N) in
+      let d = alone actKind (λ p t. shape (treeOf p t)) (Room m lo hi) acts-by-shape t cs (fresh T N) (fresh T N) (fresh-room m lo hi T N one-tree few-trees few-nodes t) refl in
+      let a : replies actKind cs (fresh T N) ≡ rs = ran-answers m lo hi h (fresh T N) f refl in
+      let o : ownOf t cs rs ≡ ownCalls actKind t cs (fresh T N) = ap (ownOf t cs) (sym a) ∙ own-same m lo hi t cs (fresh T N) in
+      let b : answersOf t cs rs ≡ ownReplies actKind t cs (fresh T N) = ap (answersOf t cs) (sym a) ∙ answers-same m lo hi t cs (fresh T N) in
       record {
-        words = encode (finally acts (ownCalls acts t cs (fresh T N)) (fresh T N));
-        answers = replies acts (ownCalls acts t cs (fresh T N)) (fresh T N);
-        alone = rw o (ran m lo hi (ownCalls acts t cs (fresh T N)) (fresh T N) f);
+        words = encode (finally actKind (ownCalls actKind t cs (fresh T N)) (fresh T N));
+        answers = replies actKind (ownCalls actKind t cs (fresh T N)) (fresh T N);
+        alone = rw o (ran m lo hi (ownCalls actKind t cs (fresh T N)) (fresh T N) f);
         same-answers = λ us bs g. sym (ran-answers m lo hi (rw o at g) (fresh T N) f refl) ∙ d .same-replies ∙ sym b;
-        all-done = rw (b, ← (d .same-replies)) (kept-done m lo hi (ownCalls acts t cs (fresh T N)) (fresh T N) (d .all-kept));
+        all-done = rw (b, ← (d .same-replies)) (kept-done m lo hi (ownCalls actKind t cs (fresh T N)) (fresh T N) (d .all-kept));
         same-tree = λ us bs g. record {
-          left = record { pool = finally acts cs (fresh T N); formed = acts-formed m lo hi cs (fresh T N) f; same = ran-words m lo hi h (fresh T N) f refl };
+          left = record { pool = finally actKind cs (fresh T N); formed = acts-formed m lo hi cs (fresh T N) f; same = ran-words m lo hi h (fresh T N) f refl };
           right = record {
-            pool = finally acts (ownCalls acts t cs (fresh T N)) (fresh T N);
-            formed = acts-formed m lo hi (ownCalls acts t cs (fresh T N)) (fresh T N) f;
+            pool = finally actKind (ownCalls actKind t cs (fresh T N)) (fresh T N);
+            formed = acts-formed m lo hi (ownCalls actKind t cs (fresh T N)) (fresh T N) f;
             same = ran-words m lo hi (rw o at g) (fresh T N) f refl;
           };
           same = sym (d .same-shape);

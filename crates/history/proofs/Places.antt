@@ -28,7 +28,7 @@ use Rattle.forest.proofs.Six.{six-levels}
 use Rattle.forest.proofs.CursorCalls.{move-done, move-refused, move-reads, move-formed, moved-stands}
 use Rattle.forest.proofs.MoveLaws.{row, list, spotIn, rank, seek-rank, MovesTo, first-goes, seek-goes, settle-goes, next-goes, next-past-goes, prev-goes, prev-first-goes, move-two, move-three, move-free}
 use Rattle.forest.proofs.RemoveLaws.{remove-goes, remove-none, move-other-trees}
-use Rattle.history.specs.Holdings.{Holds, StandsAt, Whole, Comes, Goes, Remains, Seeks, TakesOut}
+use Rattle.history.specs.Holdings.{HoldsPairs, StandsAt, Whole, Comes, Arrives, Remains, Seeks, TakesOut}
 use Rattle.history.proofs.Holdings.{sound, unsound, decide, trees-word}
 use Rattle.history.proofs.Spots.{spot-back, place-pair, position-le, place-rank, seek-found, move-trees, whole-at, one-cursor, done-kept}
 
@@ -63,7 +63,7 @@ module _ (m : ℕ) (lo : 1 ≤ m) (hi : m ≤ 4) {v : Move} {c d : Cursor} {ws u
   }
 
   -- other trees keep their list, whatever the answer
-  pub other-places : {t : ℕ} {ys : List Item} → t ≢ c .tree → Holds m ws t ys → Holds m us t ys
+  pub other-places : {t : ℕ} {ys : List Item} → t ≢ c .tree → HoldsPairs m ws t ys → HoldsPairs m us t ys
   other-places {t} n h = record {
     sound = after-move (h .sound);
     there = rw (move-trees v c (h .sound .pool)) (h .there);
@@ -75,7 +75,7 @@ module _ (m : ℕ) (lo : 1 ≤ m) (hi : m ≤ 4) {v : Move} {c d : Cursor} {ws u
   no-tree-moves s h = let e = trees-word s in remains-by s (move-refused v c (s .pool) NoTree ((move-two v c (s .pool)) .1 (omega arith)))
 
   -- a cursor that is read and does not stand
-  pub no-place-moves : {xs : List Item} (h : Holds m ws (c .tree) xs) → reads v ≡ true → stands (treeOf (h .sound .pool) (c .tree)) c ≡ false → Remains c ws us r d (Refused NoPlace)
+  pub no-place-moves : {xs : List Item} (h : HoldsPairs m ws (c .tree) xs) → reads v ≡ true → stands (treeOf (h .sound .pool) (c .tree)) c ≡ false → Remains c ws us r d (Refused NoPlace)
   no-place-moves h o n = remains-by (h .sound) (move-refused v c (h .sound .pool) NoPlace ((move-three v c (h .sound .pool) (h .there)) .1 (o, n)))
 
   -- A move that is not refused
@@ -124,7 +124,7 @@ module _ (m : ℕ) (lo : 1 ≤ m) (hi : m ≤ 4) {v : Move} {c d : Cursor} {ws u
 
       -- to a spot
       goes-to : {a : Reply} {x : Spot} {i : ℕ} {o : Option Item} → MovesTo (move v c (s .pool)) a x →
-          position (row (s .pool) c) x ≡ i → pairAt (row (s .pool) c) x ≡ o → Goes m c ws us r d a (list (s .pool) c) i o
+          position (row (s .pool) c) x ≡ i → pairAt (row (s .pool) c) x ≡ o → Arrives m c ws us r d a (list (s .pool) c) i o
       goes-to g b y = record {
         words = words-by s unchanged;
         answer = sym (answered s) ∙ g .answers;
@@ -133,7 +133,7 @@ module _ (m : ℕ) (lo : 1 ≤ m) (hi : m ≤ 4) {v : Move} {c d : Cursor} {ws u
 
       -- to the j-th pair
       goes-place : {a : Reply} {j : ℕ} → j ≤ length (list (s .pool) c) → MovesTo (move v c (s .pool)) a (spotAt (row (s .pool) c) j) →
-          Goes m c ws us r d a (list (s .pool) c) j (getElem? (list (s .pool) c) j)
+          Arrives m c ws us r d a (list (s .pool) c) j (getElem? (list (s .pool) c) j)
       goes-place {j = j} h g = goes-to g (place-rank (treeOf (s .pool) (c .tree)) j h) (place-pair (treeOf (s .pool) (c .tree)) j)
 
       -- to where it was
@@ -188,14 +188,14 @@ module _ (m : ℕ) (lo : 1 ≤ m) {c : Cursor} {ws : List ℕ} {xs : List Item} 
 
 module _ (m : ℕ) (lo : 1 ≤ m) (hi : m ≤ 4) {c d : Cursor} {ws us : List ℕ} {r : Reply} {xs : List Item} where
   -- first: the least pair
-  pub first-holds : Moves m to-first c ws us r d → Holds m ws (c .tree) xs → Goes m c ws us r d (told (getElem? xs 0)) xs 0 (getElem? xs 0)
+  pub first-holds : Moves m to-first c ws us r d → HoldsPairs m ws (c .tree) xs → Arrives m c ws us r d (told (getElem? xs 0)) xs 0 (getElem? xs 0)
   first-holds k h =
       let p = h .sound .pool in
       let e : blocked to-first c (h .sound .pool) ≡ none = move-free to-first c p (h .there) (λ r. absurd (true≢false (sym r))) in
       rw (← (h .same)) (goes-place m lo hi k (h .sound) (h .there) e (λ z. true≢false (cc)) (omega arith) (first-goes m lo hi p (h .sound .formed) c e))
 
   -- seek: the value held, and the place of the key
-  pub seek-holds : {x : ℕ} → Moves m (to-key x) c ws us r d → Holds m ws (c .tree) xs → Seeks m x c ws us r d xs
+  pub seek-holds : {x : ℕ} → Moves m (to-key x) c ws us r d → HoldsPairs m ws (c .tree) xs → Seeks m x c ws us r d xs
   seek-holds {x} k h =
       let p = h .sound .pool in
       let t = treeOf (h .sound .pool) (c .tree) in
@@ -216,7 +216,7 @@ module _ (m : ℕ) (lo : 1 ≤ m) (hi : m ≤ 4) {c d : Cursor} {ws us : List �
 
   module _ {i : ℕ} where
     -- settle: the pair whose place the cursor has
-    pub settle-holds : {o : Option Item} → Moves m to-settled c ws us r d → StandsAt m ws c xs i o → Goes m c ws us r d Nothing xs i (getElem? xs i)
+    pub settle-holds : {o : Option Item} → Moves m to-settled c ws us r d → StandsAt m ws c xs i o → Arrives m c ws us r d Nothing xs i (getElem? xs i)
     settle-holds k s =
         let h = s .holds in
         let e = free m lo s to-settled in
@@ -231,7 +231,7 @@ module _ (m : ℕ) (lo : 1 ≤ m) (hi : m ≤ 4) {c d : Cursor} {ws us : List �
         remains-at m lo hi k (h .sound) (h .there) e (λ z. true≢false (cc)) w (s .standing) (record { answers = g .answers; spot = g .spot ∙ back-there m lo s })
 
     -- next: from a pair the one after it
-    pub next-holds : {y : Item} → Moves m to-next c ws us r d → StandsAt m ws c xs i (some y) → Goes m c ws us r d (told (getElem? xs (suc i))) xs (suc i) (getElem? xs (suc i))
+    pub next-holds : {y : Item} → Moves m to-next c ws us r d → StandsAt m ws c xs i (some y) → Arrives m c ws us r d (told (getElem? xs (suc i))) xs (suc i) (getElem? xs (suc i))
     next-holds {y} k s =
         let h = s .holds in
         let e = free m lo s to-next in
@@ -239,14 +239,14 @@ module _ (m : ℕ) (lo : 1 ≤ m) (hi : m ≤ 4) {c d : Cursor} {ws us : List �
         rw (← (h .same), ← (s .before)) (goes-place m lo hi k (h .sound) (h .there) e (λ z. true≢false (cc)) l (next-goes m lo hi (h .sound .pool) (h .sound .formed) c y e (s .pair)))
 
     -- from no pair the one whose place the cursor has
-    pub next-past-holds : Moves m to-next c ws us r d → StandsAt m ws c xs i none → Goes m c ws us r d (told (getElem? xs i)) xs i (getElem? xs i)
+    pub next-past-holds : Moves m to-next c ws us r d → StandsAt m ws c xs i none → Arrives m c ws us r d (told (getElem? xs i)) xs i (getElem? xs i)
     next-past-holds k s =
         let h = s .holds in
         let e = free m lo s to-next in
         rw (← (h .same), ← (s .before)) (goes-place m lo hi k (h .sound) (h .there) e (λ z. true≢false (cc)) (few m lo s) (next-past-goes m lo hi (h .sound .pool) (h .sound .formed) c e (s .pair)))
 
     -- prev: the pair before the place
-    pub prev-holds : {o : Option Item} → Moves m to-prev c ws us r d → StandsAt m ws c xs (suc i) o → Goes m c ws us r d (told (getElem? xs i)) xs i (getElem? xs i)
+    pub prev-holds : {o : Option Item} → Moves m to-prev c ws us r d → StandsAt m ws c xs (suc i) o → Arrives m c ws us r d (told (getElem? xs i)) xs i (getElem? xs i)
     prev-holds k s =
         let h = s .holds in
         let p = h .sound .pool in

@@ -39,8 +39,8 @@ actPool (ask c) p = (call c p) .pool
 actPool (least t) p = p
 
 -- acts as a kind of call; every refusal is struck out
-abbrev pub acts : Kind Act Pool Reply
-acts = record { answer = actAnswer; next = actPool; target = actTree; kept = λ a p. kept (actAnswer a p) }
+abbrev pub actKind : Kind Act Pool Reply
+actKind = record { answer = actAnswer; next = actPool; target = actTree; kept = λ a p. kept (actAnswer a p) }
 
 -- Acts made on words
 
@@ -152,10 +152,10 @@ eventPool (key c) p = (call c p) .pool
 eventPool (at v c) p = (move v c p) .pool
 
 -- a remove at a cursor: of the key of the pair that it takes, if it is not refused and takes one
-abbrev pub taken : ℕ → Option Refusal → Option Item → Option Act
-taken t none none = none
-taken t none (some y) = some (ask (remove t (y .0)))
-taken t (some x) o = none
+abbrev pub takenAct : ℕ → Option Refusal → Option Item → Option Act
+takenAct t none none = none
+takenAct t none (some y) = some (ask (remove t (y .0)))
+takenAct t (some x) o = none
 
 -- the act that a move counts as, if it counts
 abbrev pub moveAct : Move → Cursor → Pool → Option Act
@@ -164,7 +164,7 @@ moveAct (to-key k) c p = some (ask (get (c .tree) k))
 moveAct to-next c p = none
 moveAct to-prev c p = none
 moveAct to-settled c p = none
-moveAct to-remove c p = taken (c .tree) (blocked to-remove c p) (pairAt (leaves (treeOf p (c .tree))) (spotOf (treeOf p (c .tree)) (pathIn c)))
+moveAct to-remove c p = takenAct (c .tree) (blocked to-remove c p) (pairAt (leaves (treeOf p (c .tree))) (spotOf (treeOf p (c .tree)) (pathIn c)))
 
 -- and an event
 abbrev pub eventAct : Event → Pool → Option Act

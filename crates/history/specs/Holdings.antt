@@ -18,7 +18,7 @@ use Rattle.forest.specs.Pools.{Sound, Call, put, target, treeOf, acts, keyOf}
 use Rattle.forest.specs.Cursors.{leaves, pairAt, position, spotOf, pathIn, stands}
 
 -- the words hold the pairs xs in tree t: they are those of a well formed pool that has this tree with these pairs
-pub record Holds (m : ℕ) (ws : List ℕ) (t : ℕ) (xs : List Item) : Type 0 where
+pub record HoldsPairs (m : ℕ) (ws : List ℕ) (t : ℕ) (xs : List Item) : Type 0 where
   pub sound : Sound m ws
   pub there : t < length (sound .pool .trees)
   pub same : pairs (treeOf (sound .pool) t) ≡ xs
@@ -26,11 +26,11 @@ pub record Holds (m : ℕ) (ws : List ℕ) (t : ℕ) (xs : List Item) : Type 0 w
 -- they hold some list
 pub record Listed (m : ℕ) (ws : List ℕ) (t : ℕ) : Type 0 where
   pub list : List Item
-  pub holds : Holds m ws t list
+  pub holds : HoldsPairs m ws t list
 
 -- a cursor stands in the words: its tree holds xs, i pairs come before it, and o is the pair that it is on, if it is on one
 pub record StandsAt (m : ℕ) (ws : List ℕ) (c : Cursor) (xs : List Item) (i : ℕ) (o : Option Item) : Type 0 where
-  pub holds : Holds m ws (c .tree) xs
+  pub holds : HoldsPairs m ws (c .tree) xs
   pub standing : stands (treeOf (holds .sound .pool) (c .tree)) c ≡ true
   pub before :
       position (leaves (treeOf (holds .sound .pool) (c .tree))) (spotOf (treeOf (holds .sound .pool) (c .tree)) (pathIn c)) ≡ i
@@ -42,7 +42,7 @@ pub record StandsAt (m : ℕ) (ws : List ℕ) (c : Cursor) (xs : List Item) (i :
 -- a call was done on a tree of pairs xs: it answers the value held, and the words then hold what it makes of them
 pub record Does (m : ℕ) (c : Call) (us : List ℕ) (r : Reply) (xs : List Item) : Type 0 where
   pub answer : r ≡ held (lookup (keyOf c) xs)
-  pub holds : Holds m us (target c) (acts c xs)
+  pub holds : HoldsPairs m us (target c) (acts c xs)
 
 -- a put is done, or it is refused for room and changes no word
 pub data Filed (m t k v : ℕ) (ws us : List ℕ) (r : Reply) (xs : List Item) : Type 0 where
@@ -63,7 +63,7 @@ pub record Comes (m : ℕ) (c : Cursor) (us : List ℕ) (d : Cursor) (xs : List 
   pub stood : StandsAt m us d xs i o
 
 -- a move changes no word, it answers a, and its cursor has i pairs before it and is on o
-pub record Goes (m : ℕ) (c : Cursor) (ws us : List ℕ) (r : Reply) (d : Cursor) (a : Reply) (xs : List Item) (i : ℕ) (o : Option Item) : Type 0 where
+pub record Arrives (m : ℕ) (c : Cursor) (ws us : List ℕ) (r : Reply) (d : Cursor) (a : Reply) (xs : List Item) (i : ℕ) (o : Option Item) : Type 0 where
   pub words : us ≡ ws
   pub answer : r ≡ a
   pub comes : Comes m c us d xs i o
@@ -77,11 +77,11 @@ pub record Remains (c : Cursor) (ws us : List ℕ) (r : Reply) (d : Cursor) (a :
 -- a seek of k: the value held, and the place of the key; where the key is held the cursor is on its pair
 pub record Seeks (m k : ℕ) (c : Cursor) (ws us : List ℕ) (r : Reply) (d : Cursor) (xs : List Item) : Type 0 where
   pub on : Option Item
-  pub goes : Goes m c ws us r d (held (lookup k xs)) xs (place k xs) on
+  pub goes : Arrives m c ws us r d (held (lookup k xs)) xs (place k xs) on
   pub found : (v : ℕ) → lookup k xs ≡ some v → on ≡ some (k, v)
 
 -- a remove at a cursor on y, the i-th pair: y goes, its value is answered, and the cursor has its place, on the pair that came after it
 pub record TakesOut (m : ℕ) (c : Cursor) (us : List ℕ) (r : Reply) (d : Cursor) (xs : List Item) (i : ℕ) (y : Item) : Type 0 where
   pub answer : r ≡ Value (y .1)
-  pub holds : Holds m us (c .tree) (removeAt i xs)
+  pub holds : HoldsPairs m us (c .tree) (removeAt i xs)
   pub comes : Comes m c us d (removeAt i xs) i (getElem? xs (suc i))

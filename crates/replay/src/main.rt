@@ -4,7 +4,7 @@ ghost use Prim.Native.Nat.{_≤_};
 ghost use lib.ListN.{length};
 ghost use Rattle.requests.specs.Text.{lines};
 ghost use Rattle.requests.specs.Turns.{room, wantsOf, spoken};
-ghost use Rattle.requests.specs.Program.{Takes, Replays};
+ghost use Rattle.requests.specs.Program.{TakesTurn, Replays};
 use libc::STDIN_FILENO;
 use libc::STDOUT_FILENO;
 use requests::Got;
@@ -65,7 +65,7 @@ fn say(said: Said) -> Told
 // A turn: what the stage wants is read, judged and answered.
 fn turn(pool: &mut [u32], stage: Stage) -> Taken
     requires { ⌜ room ≤ length (now pool) ⌝ }
-    ensures { λ r. ⌜ Takes stage (now (pool .entry)) (now (pool .exit)) r ⌝ }
+    ensures { λ r. ⌜ TakesTurn stage (now (pool .entry)) (now (pool .exit)) r ⌝ }
 {
     let piece = read(stage);
     let turn = requests::judge(pool, stage, piece);

@@ -15,7 +15,7 @@ use Rattle.requests.specs.declared.Taken.{Taken}
 use Rattle.requests.specs.Replay.{replay}
 use Rattle.requests.specs.Turns.{room, wantsOf, rank}
 use Rattle.requests.specs.Runs.{Run, ended, turned}
-use Rattle.requests.specs.Program.{bytesOf, textOf, following, Takes, Takings, first, then, Replays}
+use Rattle.requests.specs.Program.{bytesOf, textOf, following, TakesTurn, Takings, first, then, Replays}
 use Rattle.requests.proofs.Falling.{turned-falls, wanting}
 use Rattle.requests.proofs.Whole.{run-replay}
 
@@ -24,7 +24,7 @@ following-falls : (w : Bool) (s t : Stage) → rank t ≤ rank s - 1 → rank (c
 following-falls true s t h = h
 following-falls false s t h = omega arith
 
-pub takes-falls : (s next : Stage) (w : ℕ) (vs us : List ℕ) (e : Taken) → w ≡ wantsOf s → 0 < w → Takes s vs us e → next ≡ following e → rank next < rank s
+pub takes-falls : (s next : Stage) (w : ℕ) (vs us : List ℕ) (e : Taken) → w ≡ wantsOf s → 0 < w → TakesTurn s vs us e → next ≡ following e → rank next < rank s
 takes-falls s next w vs us e q h t n =
     let falls = following-falls (e .told .written) s (e .turn .stage) (turned-falls s _ vs us _ (t .turned)) in
     rw n (omega (arith, wanting s w q h))
@@ -39,16 +39,16 @@ pub record Took (ws vs : List ℕ) (d : Taken) : Type 0 where
 abbrev pub Leads : List ℕ → Taken → List ℕ → Taken → Type 0
 Leads vs d us e = (ws : List ℕ) → Took ws vs d → Took ws us e
 
-pub took-first : (ws vs : List ℕ) (d : Taken) → Takes Kind ws vs d → Took ws vs d
+pub took-first : (ws vs : List ℕ) (d : Taken) → TakesTurn Kind ws vs d → Took ws vs d
 took-first ws vs d t = record { bytes = _; text = _; turns = first t }
 
 -- one more turn, at the stage that follows
 pub leads-on : (os vs us : List ℕ) (o d e : Taken) (s : Stage) (w : ℕ) → Leads os o vs d → s ≡ following d → w ≡ wantsOf s → 0 < w →
-    Takes s vs us e → Leads os o us e
+    TakesTurn s vs us e → Leads os o us e
 leads-on os vs us o d e s w l q n h t ws k =
     let m = l ws k in
     let n : 0 < wantsOf (following d) = rw (← q, ← n) h in
-    let f : Takes (following d) vs us e = rw q at t in
+    let f : TakesTurn (following d) vs us e = rw q at t in
     record { bytes = _; text = _; turns = then (m .turns) n f }
 
 -- a stage that wants nothing is the end
@@ -60,11 +60,11 @@ wants-none (Request words more) w e h = absurd (omega arith)
 wants-none Stopped w e h = refl
 
 -- no more was read than the stage wants
-read-length : (s : Stage) (vs us : List ℕ) (d : Taken) → Takes s vs us d → length (bytesOf (d .read)) ≤ wantsOf s
+read-length : (s : Stage) (vs us : List ℕ) (d : Taken) → TakesTurn s vs us d → length (bytesOf (d .read)) ≤ wantsOf s
 read-length s vs us d t = rw length-take (omega (arith, t .asks, t .reads))
 
 -- a turn that another follows was written and had read all that its stage wants
-written-on : (s : Stage) (vs us : List ℕ) (d : Taken) → Takes s vs us d → 0 < wantsOf (following d) →
+written-on : (s : Stage) (vs us : List ℕ) (d : Taken) → TakesTurn s vs us d → 0 < wantsOf (following d) →
     (following d ≡ d .turn .stage) × (length (bytesOf (d .read)) ≡ wantsOf s)
 written-on s vs us d t h = elim (test (d .told .written)) [
   | isnt w ↦ absurd (let z : 0 < wantsOf Stopped = rw w at h in omega arith)
@@ -82,7 +82,7 @@ written-on s vs us d t h = elim (test (d .told .written)) [
 ]
 
 -- so it is a turn of a run, before those that follow
-run-on : (s : Stage) (vs us b text : List ℕ) (d : Taken) → Takes s vs us d → 0 < wantsOf (following d) → Run (following d) us b text →
+run-on : (s : Stage) (vs us b text : List ℕ) (d : Taken) → TakesTurn s vs us d → 0 < wantsOf (following d) → Run (following d) us b text →
     Run s vs (bytesOf (d .read) ++ b) (textOf d ++ text)
 run-on s vs us b text d t h r =
     let o = written-on s vs us d t h in
@@ -92,7 +92,7 @@ run-on s vs us b text d t h r =
     rw (t .tells) (turned {s = s} {ws = vs} {vs = us} {b = x ++ b} {text = text} {r = d .turn} (rw front (t .turned)) (rw (back, ← (o .0)) r))
 
 -- the last turn is a run
-run-last : (s : Stage) (vs us : List ℕ) (d : Taken) → Takes s vs us d → d .turn .stage ≡ Stopped → Run s vs (bytesOf (d .read)) (textOf d)
+run-last : (s : Stage) (vs us : List ℕ) (d : Taken) → TakesTurn s vs us d → d .turn .stage ≡ Stopped → Run s vs (bytesOf (d .read)) (textOf d)
 run-last s vs us d t e =
     let x = bytesOf (d .read) in
     let all : take (wantsOf s) x ≡ x = take-all (wantsOf s) x (read-length s vs us d t) in

@@ -24,7 +24,7 @@ abbrev pub following : Taken → Stage
 following d = cond (d .told .written) (d .turn .stage) Stopped
 
 -- a turn taken at stage s: what the stage wants is asked for, what was got is judged, and what is to be said is said
-pub record Takes (s : Stage) (before after : List ℕ) (d : Taken) : Type 0 where
+pub record TakesTurn (s : Stage) (before after : List ℕ) (d : Taken) : Type 0 where
   pub asks : d .read .got .asked ≡ wantsOf s
   pub reads : d .read .got .count ≤ d .read .got .asked
   pub turned : Turned s (bytesOf (d .read)) before after (d .turn)
@@ -32,8 +32,8 @@ pub record Takes (s : Stage) (before after : List ℕ) (d : Taken) : Type 0 wher
 
 -- turns from the first word on, each at the stage and on the words that the one before it left: the words, the bytes read, the text and the last turn
 pub data Takings (ws : List ℕ) : List ℕ → List ℕ → List ℕ → Taken → Type 0 where
-  first : {vs : List ℕ} {d : Taken} → Takes Kind ws vs d → Takings ws vs (bytesOf (d .read)) (textOf d) d
-  then : {vs us b text : List ℕ} {d e : Taken} → Takings ws vs b text d → 0 < wantsOf (following d) → Takes (following d) vs us e →
+  first : {vs : List ℕ} {d : Taken} → TakesTurn Kind ws vs d → Takings ws vs (bytesOf (d .read)) (textOf d) d
+  then : {vs us b text : List ℕ} {d e : Taken} → Takings ws vs b text d → 0 < wantsOf (following d) → TakesTurn (following d) vs us e →
       Takings ws us (b ++ bytesOf (e .read)) (text ++ textOf e) e
 
 -- what the program's turns come to: they end where nothing more is read

@@ -6,6 +6,8 @@ use Prim.Native.Nat.{ℕ, zero, suc, _+_, _*_}
 use lib.ListN.{length, drop, getD}
 use lib.Dec.{ltb, leb, eqb}
 use Rattle.forest.specs.declared.Answer.{Answer}
+use Rattle.forest.specs.declared.Refusal.the-variants.{NoFormat}
+use Rattle.forest.specs.declared.Reply.the-variants.{Refused}
 use Rattle.forest.specs.Answers.{refusal, answerOf}
 use Rattle.forest.specs.Pools.{Pool, Call, put, remove, get, call, fresh, formatted}
 use Rattle.requests.specs.Text.{lines}
@@ -34,12 +36,12 @@ abbrev pub request : List ℕ → Option Call
 request b = asked (wordAt b 0) (wordAt b 4) (wordAt b 8) (wordAt b 12)
 
 -- what comes of a request: its answer, and the pool afterwards
-pub record Outcome : Type 0 where
+pub record Served : Type 0 where
   pub answer : Answer
   pub pool : Pool
 
 -- a request on a pool: the call, its reply in numbers, and 6 where it is unknown
-abbrev pub heed : Option Call → Pool → Outcome
+abbrev pub heed : Option Call → Pool → Served
 heed none p = record { answer = refusal 6; pool = p }
 heed (some c) p = record { answer = answerOf ((call c p) .answer); pool = (call c p) .pool }
 
@@ -60,13 +62,13 @@ counted b p =
     cond (ltb (length b) 4) stop
     (cond (leb (wordAt b 0) mostRequests) (answered (wordAt b 0) (drop 4 b) p) stop)
 
--- T and N, then the pool is formatted: 5 if that is refused
+-- T and N, then the pool is formatted, or that is refused
 unfoldable pub pooled : List ℕ → List Answer
 pooled b =
     cond (ltb (length b) 8) stop
     (cond (formatted (wordAt b 0) (wordAt b 4) (sized (wordAt b 0) (wordAt b 4)))
     (counted (drop 8 b) (fresh (wordAt b 0) (wordAt b 4)))
-    (refusal 5 ∷ []))
+    (answerOf (Refused NoFormat) ∷ []))
 
 -- the first word
 unfoldable pub replayed : List ℕ → List Answer
