@@ -2,4 +2,3 @@ pub mod Values
 pub mod Gating
 pub mod Promising
 pub mod Removing
-pub mod Settled

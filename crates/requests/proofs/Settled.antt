@@ -1,4 +1,4 @@
--- PROOFS. A turn settles its outcome, and so does the writing of what is said: two outcomes that keep the contract are the same
+-- PROOFS. A numbered answer is settled, a turn settles its outcome, and so does the writing of what is said: two outcomes that keep the contract are the same
 use mathlib.Core.Path.{_≡_, sym, ap, _∙_}
 use mathlib.Core.List.{List, _++_}
 use mathlib.Core.Option.{Option, none, some}
@@ -9,9 +9,13 @@ use lib.ListN.{length, take, drop, length-append, take-append-drop}
 use lib.Seq.{length-take-le}
 use borrow.Author.Tests.{ltb-true, ltb-false}
 use Rattle.forest.specs.declared.Answer.{Answer}
+use Rattle.forest.specs.declared.Cursor.{Cursor}
+use Rattle.forest.specs.Answers.{answerOf}
 use Rattle.forest.specs.Pools.{Call}
+use Rattle.forest.specs.Cursors.{Move}
 use Rattle.forest.proofs.ListLaws.{test, is, isnt}
-use Rattle.map.proofs.Settled.{one-answer}
+use Rattle.history.proofs.Laws.{one-outcome, one-move-outcome}
+use Rattle.map.specs.Numbers.{AnswersCall, AnswersMove}
 use Rattle.requests.specs.declared.Stage.{Stage}
 use Rattle.requests.specs.declared.Stage.the-variants.{Kind, Sizes, Count, Request, Stopped}
 use Rattle.requests.specs.declared.Said.the-variants.{Line}
@@ -22,6 +26,18 @@ use Rattle.requests.specs.Turns.{sizedBy, wantsOf, asking, Heeds, Judged
 -- a list is its first n and the others
 parts : (n : ℕ) (x y : List ℕ) → take n x ≡ take n y → drop n x ≡ drop n y → x ≡ y
 parts n x y e f = sym (take-append-drop n x) ∙ rw (e, f) (take-append-drop n y)
+
+-- a call whose reply is handed out in numbers
+pub one-answer : (c : Call) (before x y : List ℕ) (a b : Answer) → AnswersCall c before x a → AnswersCall c before y b → (x ≡ y) × (a ≡ b)
+one-answer c before x y a b h k =
+    let o = one-outcome c before x y (h .reply) (k .reply) (h .promise) (k .promise) in
+    (o .0, h .numbered ∙ ap answerOf (o .1) ∙ sym (k .numbered))
+
+pub one-move-answer : (v : Move) (c : Cursor) (before x y : List ℕ) (a b : Answer) (d e : Cursor) → AnswersMove v c before x a d → AnswersMove v c before y b e →
+    (x ≡ y) × (a ≡ b) × (d ≡ e)
+one-move-answer v c before x y a b d e h k =
+    let o = one-move-outcome v c before x y (h .reply) (k .reply) d e (h .promise) (k .promise) in
+    (o .0, h .numbered ∙ ap answerOf (o .1) ∙ sym (k .numbered), o .2)
 
 one-heed : (o : Option Call) (before x y : List ℕ) (a b : Answer) → Heeds o before x a → Heeds o before y b → (x ≡ y) × (a ≡ b)
 one-heed none before x y a b h k = (h .0 ∙ sym (k .0), h .1 ∙ sym (k .1))
