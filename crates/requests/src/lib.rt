@@ -61,7 +61,7 @@ pub struct Got {
     pub count: usize,
 }
 
-// What a turn has read: the first of the bytes.
+// What a turn has read: the first `got.count` of the bytes.
 pub struct Piece {
     pub bytes: [u8; 16],
     pub got: Got,

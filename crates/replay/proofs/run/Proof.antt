@@ -36,12 +36,12 @@ next-requires-2 : tie.Need-next-requires-2 Inv-loop μ-loop
 next-requires-2 c κs = tt
 
 loop-less : tie.Need-loop-less Inv-loop μ-loop
-loop-less c = takes-falls _ _ _ _ _ _ (c .before .before .before .before .before .before .wants .ensures .0) (c .before .before .before .before .before .if1 .taken) (c .before .before .before .turn2 .ensures) (c .next2 .ensures)
+loop-less c = takes-falls _ _ (c .before .before .before .before .before .before .wants .result) _ _ _ (c .before .before .before .before .before .before .wants .ensures .0) (omega (arith, c .before .before .before .before .before .if1 .taken)) (c .before .before .before .turn2 .ensures) (c .next2 .ensures)
 
 loop-again : tie.Need-loop-again Inv-loop μ-loop
 loop-again c =
     let inv = c .before .before .before .before .before .before .before .loop .inv in
-    (c .before .before .before .turn2 .kept .0 ∙ inv .0, c .next2 .ensures, leads-on _ _ _ _ _ _ _ _ (inv .2) (inv .1) (c .before .before .before .before .before .before .wants .ensures .0) (c .before .before .before .before .before .if1 .taken) (c .before .before .before .turn2 .ensures))
+    (c .before .before .before .turn2 .kept .0 ∙ inv .0, c .next2 .ensures, leads-on _ _ _ _ _ _ _ (c .before .before .before .before .before .before .wants .result) (inv .2) (inv .1) (c .before .before .before .before .before .before .wants .ensures .0) (omega (arith, c .before .before .before .before .before .if1 .taken)) (c .before .before .before .turn2 .ensures))
 
 same-length : tie.Need-same-length Inv-loop μ-loop
 same-length c = c .before .before .loop .inv .0 ∙ c .before .before .before .before .before .before .turn .kept .0
@@ -54,7 +54,7 @@ returns c =
       bytes = took .bytes;
       text = took .text;
       turns = took .turns;
-      ended = sym (inv .1) ∙ wants-none _ _ (c .before .wants .ensures .0) (c .if1 .left);
+      ended = sym (inv .1) ∙ wants-none _ (c .before .wants .result) (c .before .wants .ensures .0) (omega (arith, c .if1 .left));
     }
 
 pub run-spec : {M : Type 1} → statement M
