@@ -36,15 +36,15 @@ pub record Took (ws vs : List ℕ) (d : Taken) : Type 0 where
   pub turns : Takings ws vs bytes text d
 
 -- whatever led to vs and d leads to us and e
-abbrev pub Leads : List ℕ → Taken → List ℕ → Taken → Type 0
-Leads vs d us e = (ws : List ℕ) → Took ws vs d → Took ws us e
+abbrev pub LeadsTo : List ℕ → Taken → List ℕ → Taken → Type 0
+LeadsTo vs d us e = (ws : List ℕ) → Took ws vs d → Took ws us e
 
 pub took-first : (ws vs : List ℕ) (d : Taken) → TakesTurn Kind ws vs d → Took ws vs d
 took-first ws vs d t = record { bytes = _; text = _; turns = first t }
 
 -- one more turn, at the stage that follows
-pub leads-on : (os vs us : List ℕ) (o d e : Taken) (s : Stage) (w : ℕ) → Leads os o vs d → s ≡ following d → w ≡ wantsOf s → 0 < w →
-    TakesTurn s vs us e → Leads os o us e
+pub leads-on : (os vs us : List ℕ) (o d e : Taken) (s : Stage) (w : ℕ) → LeadsTo os o vs d → s ≡ following d → w ≡ wantsOf s → 0 < w →
+    TakesTurn s vs us e → LeadsTo os o us e
 leads-on os vs us o d e s w l q n h t ws k =
     let m = l ws k in
     let n : 0 < wantsOf (following d) = rw (← q, ← n) h in

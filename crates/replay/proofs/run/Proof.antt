@@ -3,12 +3,12 @@ use native.Mathlib.Omega.{arith}
 use lib.ListN.{length}
 use Rattle.requests.specs.Turns.{rank}
 use Rattle.requests.specs.Program.{following}
-use Rattle.requests.proofs.Program.{takes-falls, Leads, took-first, leads-on, wants-none}
+use Rattle.requests.proofs.Program.{takes-falls, LeadsTo, took-first, leads-on, wants-none}
 use Rattle.replay.proofs.run.Statement.{statement}
 use Rattle.replay.proofs.run.Tie as tie
 
 abbrev Inv-loop : tie.InvT-loop
-Inv-loop pool₀ taken₀ stage₀ pool taken stage = (length pool ≡ length pool₀) × (stage ≡ following taken) × Leads pool₀ taken₀ pool taken
+Inv-loop pool₀ taken₀ stage₀ pool taken stage = (length pool ≡ length pool₀) × (stage ≡ following taken) × LeadsTo pool₀ taken₀ pool taken
 
 abbrev μ-loop : tie.MeasureT-loop
 μ-loop pool₀ taken₀ stage₀ pool taken stage = rank stage
