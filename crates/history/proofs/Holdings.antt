@@ -11,7 +11,6 @@ use lib.Dec.{ltb, eqb}
 use borrow.Author.Tests.{ltb-true, ltb-false}
 use Rattle.forest.specs.Sizes.{leafCap, leafLeast}
 use Rattle.forest.specs.Pairs.{Item, Rising, lookup, has}
-use Rattle.forest.specs.Rows.{Tree, Good}
 use Rattle.forest.specs.Trees.{pairs, need}
 use Rattle.forest.specs.declared.Reply.{Reply}
 use Rattle.forest.specs.declared.Reply.the-variants.{Value, Refused}
@@ -28,20 +27,9 @@ use Rattle.forest.proofs.CallLaws.{room-exactly, get-same, remove-absent}
 use Rattle.forest.proofs.RunLaws.{kept-free, free-kept}
 use Rattle.forest.proofs.WordLaws.{first-word}
 use Rattle.forest.proofs.UniqueLaws.{sound-pool}
-use Rattle.sound.specs.Checks.{checked}
-use Rattle.sound.proofs.CheckSteps.{exact}
+use Rattle.forest.proofs.Sentences.{keys-rise}
 use Rattle.history.specs.Holdings.{HoldsPairs, Listed, Does, Filed, filed, no-room}
-
--- words are sound or not: the check decides
-pub data Decided (ws : List ℕ) : Type 0 where
-  sound : Sound leafLeast ws → Decided ws
-  unsound : (Sound leafLeast ws → ⊥) → Decided ws
-
-pub decide : (ws : List ℕ) → Decided ws
-decide ws = elim (test (checked ws leafLeast)) [
-  | is e ↦ sound ((exact ws true (sym e)) .yes refl)
-  | isnt e ↦ unsound (λ q. true≢false (sym ((exact ws false (sym e)) .every q)))
-]
+use Rattle.history.proofs.Deciding.{sound, unsound, decide}
 
 -- the first word is the number of trees
 pub trees-word : {m : ℕ} {ws : List ℕ} (s : Sound m ws) → getD ws 0 0 ≡ length (s .pool .trees)
@@ -56,11 +44,7 @@ module _ (m : ℕ) (lo : 1 ≤ m) {ws : List ℕ} {t : ℕ} where
 
   -- its keys rise strictly
   pub holds-rising : {xs : List Item} → HoldsPairs m ws t xs → Rising xs
-  holds-rising h = subst Rising (h .same) (rising (treeOf (h .sound .pool) t) (good-at m (h .sound .pool .trees) t (h .sound .formed .good)))
-    where
-      rising : (x : Tree) → Good m leafCap x → Rising (pairs x)
-      rising [] g = tt
-      rising (L ∷ Rs) g = g .0
+  holds-rising h = subst Rising (h .same) (keys-rise m (h .sound .pool) t (h .sound .formed))
 
   -- there is one for every tree that is there
   pub some-list : Sound m ws → t < getD ws 0 0 → Listed m ws t

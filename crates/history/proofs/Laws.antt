@@ -1,7 +1,7 @@
 -- PROOFS. Any public calls keep words sound; a promise settles its outcome
 use mathlib.Core.Path.{_≡_, refl, sym, ap, _∙_}
 use mathlib.Core.List.{List}
-use mathlib.Core.Bool.{Bool, true, false, true≢false}
+use mathlib.Core.Bool.{Bool, true, false}
 use Prim.Native.Nat.{ℕ, _+_, _*_, _≤_}
 use native.Mathlib.Omega.{arith}
 use lib.ListN.{length}
@@ -17,9 +17,8 @@ use Rattle.forest.proofs.ListLaws.{is, isnt, test, four}
 use Rattle.forest.proofs.PoolLaws.{same-trees, same-count}
 use Rattle.forest.proofs.CountLaws.{fresh-formed, encode-length}
 use Rattle.forest.proofs.PromiseLaws.{calls-sound, moves-sound, one-outcome-sound, one-outcome-unsound}
-use Rattle.sound.specs.Checks.{checked}
 use Rattle.sound.specs.Exact.{Exact}
-use Rattle.sound.proofs.CheckSteps.{exact}
+use Rattle.history.proofs.Deciding.{sound, unsound, decide}
 use Rattle.history.specs.Histories.{AllSound, Event, Went, stays, formats, calls, moves, wentWords}
 
 -- a format is done only where T, N and the length are as they must be
@@ -61,9 +60,9 @@ module _ (m : ℕ) (lo : 1 ≤ m) (hi : m ≤ 4) where
 -- A promise settles its outcome: two outcomes of the same call on the same words that keep it are the same, whatever the words
 module _ (c : Call) (before x y : List ℕ) (r s : Reply) (a : Calls leafLeast c before x r) (b : Calls leafLeast c before y s) where
   pub one-outcome : (x ≡ y) × (r ≡ s)
-  one-outcome = elim (test (checked before leafLeast)) [
-    | is e ↦ one-outcome-sound leafLeast c before x y r s a b ((exact before true (sym e)) .yes refl)
-    | isnt e ↦ one-outcome-unsound leafLeast c before x y r s a b (λ q. true≢false (sym ((exact before false (sym e)) .every q)))
+  one-outcome = elim (decide before) [
+    | sound o ↦ one-outcome-sound leafLeast c before x y r s a b o
+    | unsound n ↦ one-outcome-unsound leafLeast c before x y r s a b n
   ]
 
 -- and so does that of the check
@@ -74,9 +73,8 @@ one-check m ws false false a b = refl
 
 -- A call leaves as many words as there were
 pub same-length : (c : Call) (before after : List ℕ) (r : Reply) → Calls leafLeast c before after r → length after ≡ length before
-same-length c before after r k = elim (test (checked before leafLeast)) [
-  | is e ↦
-      let s : Sound leafLeast before = (exact before true (sym e)) .yes refl in
+same-length c before after r k = elim (decide before) [
+  | sound s ↦
       let p = s .pool in
       omega (
         arith,
@@ -87,7 +85,7 @@ same-length c before after r k = elim (test (checked before leafLeast)) [
         ap length (s .same),
         ap length (k .sound-words p (s .formed) (s .same)),
       )
-  | isnt e ↦ ap length (k .unsound-words (λ q. true≢false (sym ((exact before false (sym e)) .every q))))
+  | unsound n ↦ ap length (k .unsound-words n)
 ]
 
 module _ (v : Move) (c : Cursor) (before x y : List ℕ) (r s : Reply) (d e : Cursor)
@@ -107,7 +105,4 @@ module _ (v : Move) (c : Cursor) (before x y : List ℕ) (r s : Reply) (d e : Cu
   )
 
   pub one-move-outcome : (x ≡ y) × (r ≡ s) × (d ≡ e)
-  one-move-outcome = elim (test (checked before leafLeast)) [
-    | is h ↦ outcome-sound ((exact before true (sym h)) .yes refl)
-    | isnt h ↦ outcome-unsound (λ q. true≢false (sym ((exact before false (sym h)) .every q)))
-  ]
+  one-move-outcome = elim (decide before) [ sound o ↦ outcome-sound o | unsound n ↦ outcome-unsound n ]

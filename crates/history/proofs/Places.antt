@@ -29,7 +29,8 @@ use Rattle.forest.proofs.CursorCalls.{move-done, move-refused, move-reads, move
 use Rattle.forest.proofs.MoveLaws.{row, list, spotIn, rank, seek-rank, MovesTo, first-goes, seek-goes, settle-goes, next-goes, next-past-goes, prev-goes, prev-first-goes, move-two, move-three, move-free}
 use Rattle.forest.proofs.RemoveLaws.{remove-goes, remove-none, move-other-trees}
 use Rattle.history.specs.Holdings.{HoldsPairs, StandsAt, Whole, Comes, Arrives, Remains, Seeks, TakesOut}
-use Rattle.history.proofs.Holdings.{sound, unsound, decide, trees-word}
+use Rattle.history.proofs.Deciding.{sound, unsound, decide}
+use Rattle.history.proofs.Holdings.{trees-word}
 use Rattle.history.proofs.Spots.{spot-back, place-pair, position-le, place-rank, seek-found, move-trees, whole-at, one-cursor, done-kept}
 
 -- Any move

@@ -1,7 +1,7 @@
 -- PROOFS. The premises of Laws, AnyCalls and Fakes are met: a program that keeps every promise and an exact check, for any words; a history with refused calls, by key and on cursors
 use mathlib.Core.Path.{_≡_, refl, sym}
 use mathlib.Core.List.{List, [], _∷_}
-use mathlib.Core.Bool.{true, false, true≢false}
+use mathlib.Core.Bool.{false, true≢false}
 use Prim.Native.Nat.{ℕ}
 use native.Mathlib.Omega.{arith}
 use lib.ListN.{replicate}
@@ -13,7 +13,6 @@ use Rattle.forest.specs.declared.Cursor.{Cursor}
 use Rattle.forest.specs.Pools.{Pool, WellFormed, Sound, encode, fresh, Call, put, remove, get, call, run, formatWords, formatAnswer}
 use Rattle.forest.specs.Cursors.{cursorAt, Move, move, to-first, to-key, to-next, to-remove}
 use Rattle.forest.specs.Promises.{Calls, Moves}
-use Rattle.forest.proofs.ListLaws.{Test, is, isnt, test}
 use Rattle.forest.proofs.CountLaws.{fresh-formed}
 use Rattle.forest.proofs.CursorCalls.{move-formed}
 use Rattle.forest.proofs.RunLaws.{run-formed}
@@ -23,42 +22,43 @@ use Rattle.sound.specs.Checks.{checked, framed}
 use Rattle.sound.specs.Exact.{Exact}
 use Rattle.sound.proofs.CheckSteps.{exact}
 use Rattle.history.specs.Histories.{ask, least, Ran, ownOf, answersOf, Event, format, key, at, Went, stays, formats, calls, moves, Unformatted, actsOf, repliesOf}
+use Rattle.history.proofs.Deciding.{Decided, sound, unsound, decide}
 use Rattle.history.proofs.AnyCalls.{any-calls}
 use Rattle.history.proofs.Fakes.{Outcome, Program, Keeps, Handed, Mover, KeepsMoves, start, start-formed, filed, on-nine}
 
 -- the outcome on sound words, and on others
-abbrev outcome : (c : Call) (ws : List ℕ) → Test (checked ws leafLeast) → Outcome
-outcome c ws (is e) = let p = ((exact ws true (sym e)) .yes refl) .pool in record { words = encode ((call c p) .pool); answer = (call c p) .answer }
-outcome c ws (isnt e) = record { words = ws; answer = Refused Unsound }
+abbrev outcome : (c : Call) (ws : List ℕ) → Decided ws → Outcome
+outcome c ws (sound s) = let p = s .pool in record { words = encode ((call c p) .pool); answer = (call c p) .answer }
+outcome c ws (unsound n) = record { words = ws; answer = Refused Unsound }
 
 -- the definitions themselves, run
 abbrev pub honest : Program
-honest c ws = outcome c ws (test (checked ws leafLeast))
+honest c ws = outcome c ws (decide ws)
 
-outcome-keeps : (c : Call) (ws : List ℕ) (x : Test (checked ws leafLeast)) → Calls leafLeast c ws ((outcome c ws x) .words) ((outcome c ws x) .answer)
-outcome-keeps c ws (is e) = calls-by leafLeast (omega arith) c ws _ _ ((exact ws true (sym e)) .yes refl) refl refl
-outcome-keeps c ws (isnt e) = calls-unsound leafLeast (omega arith) c ws (λ q. true≢false (sym ((exact ws false (sym e)) .every q)))
+outcome-keeps : (c : Call) (ws : List ℕ) (x : Decided ws) → Calls leafLeast c ws ((outcome c ws x) .words) ((outcome c ws x) .answer)
+outcome-keeps c ws (sound s) = calls-by leafLeast (omega arith) c ws _ _ s refl refl
+outcome-keeps c ws (unsound n) = calls-unsound leafLeast (omega arith) c ws n
 
 pub honest-keeps : Keeps honest
-honest-keeps c ws = outcome-keeps c ws (test (checked ws leafLeast))
+honest-keeps c ws = outcome-keeps c ws (decide ws)
 
 -- and one of the cursor calls
-abbrev handed : (v : Move) (c : Cursor) (ws : List ℕ) → Test (checked ws leafLeast) → Handed
-handed v c ws (is e) =
-    let p = ((exact ws true (sym e)) .yes refl) .pool in
+abbrev handed : (v : Move) (c : Cursor) (ws : List ℕ) → Decided ws → Handed
+handed v c ws (sound s) =
+    let p = s .pool in
     record { words = encode ((move v c p) .pool); answer = (move v c p) .answer; cursor = (move v c p) .cursor }
-handed v c ws (isnt e) = record { words = ws; answer = Refused Unsound; cursor = c }
+handed v c ws (unsound n) = record { words = ws; answer = Refused Unsound; cursor = c }
 
 abbrev pub honest-moves : Mover
-honest-moves v c ws = handed v c ws (test (checked ws leafLeast))
+honest-moves v c ws = handed v c ws (decide ws)
 
-handed-keeps : (v : Move) (c : Cursor) (ws : List ℕ) (x : Test (checked ws leafLeast)) →
+handed-keeps : (v : Move) (c : Cursor) (ws : List ℕ) (x : Decided ws) →
     Moves leafLeast v c ws ((handed v c ws x) .words) ((handed v c ws x) .answer) ((handed v c ws x) .cursor)
-handed-keeps v c ws (is e) = moves-by leafLeast (omega arith) v c ws _ _ _ ((exact ws true (sym e)) .yes refl) refl refl refl
-handed-keeps v c ws (isnt e) = moves-unsound leafLeast (omega arith) v c ws (λ q. true≢false (sym ((exact ws false (sym e)) .every q)))
+handed-keeps v c ws (sound s) = moves-by leafLeast (omega arith) v c ws _ _ _ s refl refl refl
+handed-keeps v c ws (unsound n) = moves-unsound leafLeast (omega arith) v c ws n
 
 pub moves-kept : KeepsMoves honest-moves
-moves-kept v c ws = handed-keeps v c ws (test (checked ws leafLeast))
+moves-kept v c ws = handed-keeps v c ws (decide ws)
 
 -- a move on the words of a pool
 pub on-pool : (v : Move) (c : Cursor) (p : Pool) → WellFormed leafLeast p → Moves leafLeast v c (encode p) (encode ((move v c p) .pool)) ((move v c p) .answer) ((move v c p) .cursor)
