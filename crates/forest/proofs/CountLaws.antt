@@ -7,12 +7,13 @@ use native.Mathlib.Omega.{arith}
 use lib.ListN.{length, take, getD, set, replicate, length-append, length-map, length-replicate}
 use lib.Seq.{take-nil}
 use lib.Dec.{ltb, eqb, leb}
-use borrow.Author.Tests.{lt-ltb, le-ltb, eqb-true, eqb-false, eq-eqb, ne-eqb, le-leb, lt-leb}
+use borrow.Author.Tests.{lt-ltb, le-ltb, eqb-true, eqb-false, eq-eqb, ne-eqb, le-leb, lt-leb, leb-true}
+use Rattle.forest.specs.Sizes.{mostTrees, mostNodes}
 use Rattle.forest.specs.Lists.{once, count, pad}
 use Rattle.forest.specs.Pairs.{Item}
 use Rattle.forest.specs.Rows.{Row, Tree}
-use Rattle.forest.specs.Pools.{Pool, used, AllGood, WellFormed, fresh, fresh-stack, leafWords, innerWords, inRow, inRows, inTree, inTrees, nodeWords, nodesFrom, encode}
-use Rattle.forest.proofs.ListLaws.{is, isnt, test, tests, total-append}
+use Rattle.forest.specs.Pools.{Pool, used, AllGood, WellFormed, Sound, fresh, fresh-stack, formatted, leafWords, innerWords, inRow, inRows, inTree, inTrees, nodeWords, nodesFrom, encode}
+use Rattle.forest.proofs.ListLaws.{is, isnt, test, tests, four, total-append}
 
 -- a test as a number is at most 1
 pub small : (b : Bool) → once b ≤ 1
@@ -204,3 +205,16 @@ nodes-length words n (suc c) s = omega (arith, length-append (words n) (nodesFro
 pub encode-length : (p : Pool) → length (encode p) ≡ length (p .trees) + 17 * p .count + 3
 unfolding encode
 encode-length p = simp (length-append, length-map, nodes-length (nodeWords (p .trees)) 1 (p .count) (node-length (p .trees)), length-pad) (omega arith)
+
+-- a format is done only where T, N and the length are as they must be
+pub format-in : (T N len : ℕ) → formatted T N len ≡ true → (1 ≤ T) × (T ≤ mostTrees) × (N ≤ mostNodes) × (len ≡ T + 17 * N + 3)
+unfolding formatted
+format-in T N len h =
+    let e = four (leb 1 T) (leb T mostTrees) (leb N mostNodes) (eqb len (T + 17 * N + 3)) h in
+    (leb-true _ _ (e .0), leb-true _ _ (e .1), leb-true _ _ (e .2), eqb-true _ _ (e .3))
+
+-- and then the words are sound, whatever the minimum of a leaf
+pub fresh-sound : (m T N len : ℕ) → formatted T N len ≡ true → Sound m (encode (fresh T N))
+fresh-sound m T N len e =
+    let i = format-in T N len e in
+    record { pool = fresh T N; formed = fresh-formed m T N (i .0) (i .1) (i .2); same = refl }

@@ -72,6 +72,13 @@ module _ (m : ℕ) (lo : 1 ≤ m) where
     unsound-cursor = λ k. refl;
   }
 
+-- a pool that is as it was, in words
+pub calls-same : (m : ℕ) {c : Call} {ws us : List ℕ} {r : Reply} → Calls m c ws us r → (s : Sound m ws) → (call c (s .pool)) .pool ≡ s .pool → us ≡ ws
+calls-same m k s e = sym (k .sound-words (s .pool) (s .formed) (s .same)) ∙ ap encode e ∙ s .same
+
+pub moves-same : (m : ℕ) {v : Move} {c d : Cursor} {ws us : List ℕ} {r : Reply} → Moves m v c ws us r d → (s : Sound m ws) → (move v c (s .pool)) .pool ≡ s .pool → us ≡ ws
+moves-same m k s e = sym (k .sound-words (s .pool) (s .formed) (s .same)) ∙ ap encode e ∙ s .same
+
 -- two outcomes that keep the promise are the same, whether the words are sound or not
 module _ (m : ℕ) (c : Call) (before x y : List ℕ) (r s : Reply) (a : Calls m c before x r) (b : Calls m c before y s) where
   pub one-outcome-sound : Sound m before → (x ≡ y) × (r ≡ s)
@@ -83,22 +90,41 @@ module _ (m : ℕ) (c : Call) (before x y : List ℕ) (r s : Reply) (a : Calls m
   pub one-outcome-unsound : (Sound m before → ⊥) → (x ≡ y) × (r ≡ s)
   one-outcome-unsound n = (a .unsound-words n ∙ sym (b .unsound-words n), a .unsound-answer n ∙ sym (b .unsound-answer n))
 
+module _ (m : ℕ) (v : Move) (c : Cursor) (before x y : List ℕ) (r s : Reply) (d e : Cursor) (a : Moves m v c before x r d) (b : Moves m v c before y s e) where
+  pub one-move-sound : Sound m before → (x ≡ y) × (r ≡ s) × (d ≡ e)
+  one-move-sound o = (
+    sym (a .sound-words (o .pool) (o .formed) (o .same)) ∙ b .sound-words (o .pool) (o .formed) (o .same),
+    sym (a .sound-answer (o .pool) (o .formed) (o .same)) ∙ b .sound-answer (o .pool) (o .formed) (o .same),
+    sym (a .sound-cursor (o .pool) (o .formed) (o .same)) ∙ b .sound-cursor (o .pool) (o .formed) (o .same),
+  )
+
+  pub one-move-unsound : (Sound m before → ⊥) → (x ≡ y) × (r ≡ s) × (d ≡ e)
+  one-move-unsound n = (
+    a .unsound-words n ∙ sym (b .unsound-words n),
+    a .unsound-answer n ∙ sym (b .unsound-answer n),
+    a .unsound-cursor n ∙ sym (b .unsound-cursor n),
+  )
+
+-- the first word is the number of trees
+pub trees-word : {m : ℕ} {ws : List ℕ} (s : Sound m ws) → getD ws 0 0 ≡ length (s .pool .trees)
+trees-word s = ap (λ (u : List ℕ). getD u 0 0) (sym (s .same)) ∙ first-word (s .pool)
+
 -- what a function on sound words needs for its indices
 pub sound-T : (m : ℕ) (ws : List ℕ) → Sound m ws → (1 ≤ getD ws 0 0) × (getD ws 0 0 ≤ 32)
 sound-T m ws s =
-    let e : getD ws 0 0 ≡ length (s .pool .trees) = ap (λ (u : List ℕ). getD u 0 0) (sym (s .same)) ∙ first-word (s .pool) in
+    let e = trees-word s in
     omega (arith, s .formed .some-trees, s .formed .few-trees)
 
 pub sound-N : (m : ℕ) (ws : List ℕ) → Sound m ws → getD ws (suc (getD ws 0 0)) 0 ≤ 512
 sound-N m ws s =
-    let e : getD ws 0 0 ≡ length (s .pool .trees) = ap (λ (u : List ℕ). getD u 0 0) (sym (s .same)) ∙ first-word (s .pool) in
+    let e = trees-word s in
     let f : getD ws (suc (getD ws 0 0)) 0 ≡ s .pool .count =
     ap (λ (i : ℕ). getD ws (suc i) 0) e ∙ ap (λ (u : List ℕ). getD u (suc (length (s .pool .trees))) 0) (sym (s .same)) ∙ count-word (s .pool) in
     omega (arith, s .formed .few-nodes)
 
 pub sound-length : (m : ℕ) (ws : List ℕ) → Sound m ws → length ws ≡ getD ws 0 0 + 17 * getD ws (suc (getD ws 0 0)) 0 + 3
 sound-length m ws s =
-    let e : getD ws 0 0 ≡ length (s .pool .trees) = ap (λ (u : List ℕ). getD u 0 0) (sym (s .same)) ∙ first-word (s .pool) in
+    let e = trees-word s in
     let f : getD ws (suc (getD ws 0 0)) 0 ≡ s .pool .count =
     ap (λ (i : ℕ). getD ws (suc i) 0) e ∙ ap (λ (u : List ℕ). getD u (suc (length (s .pool .trees))) 0) (sym (s .same)) ∙ count-word (s .pool) in
     omega (arith, encode-length (s .pool), ap length (s .same))

@@ -1,22 +1,21 @@
--- PROOFS. Demand 3: each tree of a pool does what it would do alone
+-- PROOFS. For demand 3: what get, put and remove answer and make goes by the shape of their tree
 use mathlib.Core.Path.{_≡_, refl, sym, ap, _∙_}
 use mathlib.Core.List.{List, [], _∷_}
 use mathlib.Core.Bool.{true, false, true≢false}
 use mathlib.Core.Option.{none}
-use Prim.Native.Nat.{ℕ, zero, suc, _-_, _≤_}
+use Prim.Native.Nat.{ℕ, zero, suc, _≤_}
 use native.Mathlib.Omega.{arith}
 use lib.ListN.{length, getD, set, replicate}
 use Rattle.forest.specs.Rows.{Tree}
 use Rattle.forest.specs.Trees.{numbers, need, getTree}
 use Rattle.forest.specs.Answers.{held, kept}
-use Rattle.forest.specs.Pools.{Pool, used, WellFormed, treeOf, Call, put, remove, get, target, after, takes, says, refused, done, call, calls, fresh, run, answers, own, shape, AllDone, Alone}
+use Rattle.forest.specs.Pools.{Pool, used, WellFormed, treeOf, Call, put, remove, get, target, after, takes, says, refused, done, call, calls, fresh, run, shape}
 use Rattle.forest.proofs.ListLaws.{total-length}
 use Rattle.forest.proofs.Reasons.{passes, stops, verdict}
 use Rattle.forest.proofs.PoolLaws.{Free, free-call, call-free, call-done, call-refused, other-trees, same-trees, same-count, own-tree, call-formed, used-set, used-at}
 use Rattle.forest.proofs.CountLaws.{nodes-all, fresh-formed}
 use Rattle.forest.proofs.CallLaws.{held-kept}
-use Rattle.forest.specs.Runs.{AllKept}
-use Rattle.forest.proofs.KindLaws.{ByShape, alone}
+use Rattle.forest.proofs.KindLaws.{ByShape}
 use Rattle.forest.proofs.ShapeLaws.{shape-put, shape-need, shape-get, shape-remove, shape-nodes}
 
 -- of a call, answer and new shape are those that the old shape gives
@@ -143,16 +142,6 @@ module _ (m : ℕ) (lo : 1 ≤ m) (hi : m ≤ 4) where
     };
   }
 
-  kept-done : (cs : List Call) (p : Pool) → AllKept calls cs p → AllDone (answers cs p)
-  kept-done [] p a = tt
-  kept-done (c ∷ cs) p a = (a .0, kept-done cs ((call c p) .pool) (a .1))
-
-  -- from any two such pools
-  pub alone-calls : (t : ℕ) (cs : List Call) (p q : Pool) → Room t p q → shape (treeOf p t) ≡ shape (treeOf q t) → Alone t cs p q
-  alone-calls t cs p q w a =
-      let s = alone calls (λ p t. shape (treeOf p t)) Room calls-by-shape t cs p q w a in
-      record { same-answers = s .same-replies; all-done = kept-done (own t cs p) q (s .all-kept); same-shape = s .same-shape }
-
   -- a fresh pool has as much room for each tree as another
   pub fresh-room : (T N : ℕ) → 1 ≤ T → T ≤ 32 → N ≤ 512 → (t : ℕ) → Room t (fresh T N) (fresh T N)
   fresh-room T N a b c t = let g = fresh-formed m T N a b c in record { joint = g; lone = g; trees = refl; nodes = refl; only = none-used T t }
@@ -165,8 +154,3 @@ module _ (m : ℕ) (lo : 1 ≤ m) (hi : m ≤ 4) where
           none-used′ zero = refl
           none-used′ (suc T) = none-used′ T
       none-used (suc T) (suc t) = none-used T t
-
-  -- any calls from a fresh pool, the refused ones struck out: tree t, with its own calls alone in a fresh pool, gives the same answers, none a refusal,
-  -- and comes to the same shape
-  pub demand-3 : (T N : ℕ) → 1 ≤ T → T ≤ 32 → N ≤ 512 → (t : ℕ) (cs : List Call) → Alone t cs (fresh T N) (fresh T N)
-  demand-3 T N a b c t cs = alone-calls t cs (fresh T N) (fresh T N) (fresh-room T N a b c t) refl

@@ -15,7 +15,7 @@ use Rattle.forest.specs.declared.Refusal.the-variants.{NoTree, NoRoom, N
 use Rattle.forest.specs.declared.Reply.{Reply}
 use Rattle.forest.specs.declared.Reply.the-variants.{Nothing, Refused}
 use Rattle.forest.specs.Answers.{held, kept}
-use Rattle.forest.specs.Runs.{Kind, finally, replies, ownCalls, ownReplies}
+use Rattle.forest.specs.Runs.{Kind, finally, replies}
 use Rattle.forest.specs.Trees.{numbers, putTree, need, removeTree, freed, getTree}
 
 -- T trees, N nodes, the free numbers with the top of the stack first
@@ -219,14 +219,6 @@ run cs p = finally calls cs p
 abbrev pub answers : List Call → Pool → List Reply
 answers cs p = replies calls cs p
 
--- the calls of tree t, those that are refused struck out
-abbrev pub own : ℕ → List Call → Pool → List Call
-own t cs p = ownCalls calls t cs p
-
--- and the answers to these
-abbrev pub ownAnswers : ℕ → List Call → Pool → List Reply
-ownAnswers t cs p = ownReplies calls t cs p
-
 -- The meaning of a call on the list of pairs
 
 -- what becomes of the pairs
@@ -252,15 +244,9 @@ abbrev pub shape : Tree → Tree
 shape [] = []
 shape (L ∷ Rs) = map (blank (λ v. v)) L ∷ map (map (blank (λ v. 0))) Rs
 
--- Demand 3, for tree t and the calls cs
+-- Demand 3 (history/specs/Histories)
 
 -- no answer is a refusal
 abbrev pub AllDone : List Reply → Type 0
 AllDone [] = Unit {0}
 AllDone (a ∷ rest) = (kept a ≡ true) × AllDone rest
-
--- the calls of t that pool p did not refuse, made alone in pool q: the same answers, no refusal, the same shape
-pub record Alone (t : ℕ) (cs : List Call) (p q : Pool) : Type 0 where
-  pub same-answers : answers (own t cs p) q ≡ ownAnswers t cs p
-  pub all-done : AllDone (answers (own t cs p) q)
-  pub same-shape : shape (treeOf (run (own t cs p) q) t) ≡ shape (treeOf (run cs p) t)

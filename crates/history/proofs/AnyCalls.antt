@@ -21,6 +21,7 @@ use Rattle.forest.proofs.CountLaws.{fresh-formed}
 use Rattle.forest.proofs.CursorCalls.{move-done, move-refused, move-reads, move-formed}
 use Rattle.forest.proofs.MoveLaws.{row, spotIn}
 use Rattle.forest.proofs.UniqueLaws.{same-pool}
+use Rattle.forest.proofs.PromiseLaws.{moves-same}
 use Rattle.history.specs.Histories.{Takes, Act, by-key, took, sought, led, Ran, no-calls, one, moved, unformatted, Independent, Event, Went, stays, formats, calls, moves, Unformatted, moveAct, countIn, actsOf, repliesOf}
 use Rattle.history.proofs.Independence.{independent}
 
@@ -42,7 +43,7 @@ module _ (m : ℕ) (lo : 1 ≤ m) (hi : m ≤ 4) where
 
   module _ {c d : Cursor} {ws us vs : List ℕ} {r : Reply} {cs : List Act} {rs : List Reply} (p : Pool) (w : WellFormed m p) (b : encode p ≡ ws) (h : Ran m cs us vs rs) where
     idle : {v : Move} → Moves m v c ws us r d → (move v c p) .pool ≡ p → Ran m cs ws vs rs
-    idle k e = moved k (sym (k .sound-words p w b) ∙ ap encode e ∙ b) h
+    idle k e = moved k (moves-same m k (record { pool = p; formed = w; same = b }) e) h
 
     reads : {v : Move} → Moves m v c ws us r d → v ≢ to-remove → Ran m cs ws vs rs
     reads {v = v} k n = idle k (move-reads m lo hi v c p n)

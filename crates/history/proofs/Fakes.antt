@@ -8,13 +8,13 @@ use lib.ListN.{length, getD}
 use lib.Seq.{getD-drop}
 use Rattle.forest.specs.Sizes.{leafLeast}
 use Rattle.forest.specs.declared.Reply.{Reply}
-use Rattle.forest.specs.declared.Reply.the-variants.{Refused}
+use Rattle.forest.specs.declared.Reply.the-variants.{Value, Pair, Refused}
 use Rattle.forest.specs.declared.Refusal.the-variants.{NoRoom}
 use Rattle.forest.specs.declared.Cursor.{Cursor}
 use Rattle.forest.specs.Answers.{kept, answerOf}
-use Rattle.forest.specs.Pools.{Pool, WellFormed, encode, fresh, Call, put, get, call, treeOf, used, run}
+use Rattle.forest.specs.Pools.{Pool, WellFormed, encode, fresh, Call, put, remove, get, call, treeOf, used, run}
 use Rattle.forest.specs.Trees.{need}
-use Rattle.forest.specs.Cursors.{Move, to-first, to-remove, cursorAt}
+use Rattle.forest.specs.Cursors.{Move, to-first, to-key, to-prev, to-remove, move, cursorAt}
 use Rattle.forest.specs.Promises.{Calls, Moves}
 use Rattle.forest.proofs.WordLaws.{free-part}
 use Rattle.forest.proofs.CountLaws.{fresh-formed, nodes-all}
@@ -143,6 +143,41 @@ unfolding steps
 stays-put f same k =
     let e : _≡_ {A = ℕ} 1 0 = ap (λ (x : Cursor). x .size) ((k to-first off-end (encode filed)) .sound-cursor filed filed-formed refl ∙ same to-first off-end (encode filed)) in
     omega (arith, e)
+
+-- One that tells a value as a pair of key 0, or a pair of key 0 as a value: in numbers they are the same, and the reply is another
+
+-- 0 filed with 5
+abbrev pub zeroed : Pool
+zeroed = run (put 0 0 5 ∷ []) start
+
+pub zeroed-formed : WellFormed leafLeast zeroed
+zeroed-formed = run-formed leafLeast (omega arith) (omega arith) (put 0 0 5 ∷ []) start start-formed
+
+pub same-numbers : answerOf (Value 5) ≡ answerOf (Pair 0 5)
+same-numbers = refl
+
+value-pair : Value 5 ≡ Pair 0 5 → ⊥
+value-pair e = let z : _≡_ {A = ℕ} 0 1 = cc in omega arith
+
+-- get, put and remove of a key that is held, and seek and a remove at the cursor on it
+pub pair-for-value : (f : Program) → Keeps f → (c : Call) → (call c zeroed) .answer ≡ Value 5 → (f c (encode zeroed)) .answer ≡ Pair 0 5 → ⊥
+pair-for-value f k c e g = value-pair (sym e ∙ (k c (encode zeroed)) .sound-answer zeroed zeroed-formed refl ∙ g)
+
+pub pair-for-value-moves : (f : Mover) → KeepsMoves f → (v : Move) (c : Cursor) → (move v c zeroed) .answer ≡ Value 5 → (f v c (encode zeroed)) .answer ≡ Pair 0 5 → ⊥
+pair-for-value-moves f k v c e g = value-pair (sym e ∙ (k v c (encode zeroed)) .sound-answer zeroed zeroed-formed refl ∙ g)
+
+pub values-held : ((call (get 0 0) zeroed) .answer ≡ Value 5) × ((call (put 0 0 6) zeroed) .answer ≡ Value 5) × ((call (remove 0 0) zeroed) .answer ≡ Value 5) ×
+    ((move (to-key 0) off-end zeroed) .answer ≡ Value 5) × ((move to-remove on-nine zeroed) .answer ≡ Value 5)
+unfolding steps
+values-held = (refl, refl, refl, refl, refl)
+
+-- first, and prev from off the end
+pub value-for-pair : (f : Mover) → KeepsMoves f → (v : Move) (c : Cursor) → (move v c zeroed) .answer ≡ Pair 0 5 → (f v c (encode zeroed)) .answer ≡ Value 5 → ⊥
+value-for-pair f k v c e g = value-pair (sym (sym e ∙ (k v c (encode zeroed)) .sound-answer zeroed zeroed-formed refl ∙ g))
+
+pub pairs-told : ((move to-first off-end zeroed) .answer ≡ Pair 0 5) × ((move to-prev off-end zeroed) .answer ≡ Pair 0 5)
+unfolding steps
+pairs-told = (refl, refl)
 
 -- a check with a fixed answer: some words are sound and some are not
 pub fixed-check : (f : List ℕ → Bool) (b : Bool) → ((ws : List ℕ) → f ws ≡ b) → ((ws : List ℕ) → Exact leafLeast ws (f ws)) → ⊥

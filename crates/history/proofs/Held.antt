@@ -6,32 +6,22 @@ use mathlib.Core.Logic.{_≢_}
 use mathlib.Core.Option.{none, some}
 use Prim.Native.Nat.{ℕ, _≤_, _<_}
 use native.Mathlib.Omega.{arith}
-use lib.ListN.{length, getD}
+use lib.ListN.{length, getD, replicate}
 use Rattle.forest.specs.Sizes.{leafCap, leafLeast}
 use Rattle.forest.specs.Pairs.{Item, lookup}
 use Rattle.forest.specs.Trees.{pairs, need}
 use Rattle.forest.specs.declared.Reply.the-variants.{Value}
-use Rattle.forest.specs.declared.Cursor.{Cursor}
 use Rattle.forest.specs.Answers.{kept}
-use Rattle.forest.specs.Pools.{Pool, WellFormed, encode, Call, put, get, treeOf, call, run}
-use Rattle.forest.specs.Cursors.{cursorAt, stands, Move, to-first, to-key, to-next, to-remove, move}
-use Rattle.forest.specs.Promises.{Calls, Moves}
+use Rattle.forest.specs.Pools.{Pool, WellFormed, encode, Call, put, get, treeOf, call, run, formatted}
+use Rattle.forest.specs.Cursors.{cursorAt, stands, to-first, to-key, to-next, to-remove, move}
 use Rattle.forest.proofs.PoolLaws.{call-formed}
 use Rattle.forest.proofs.RunLaws.{run-formed}
-use Rattle.forest.proofs.PromiseLaws.{calls-by, moves-by}
 use Rattle.forest.proofs.Premises.{pool, pool-formed, cursor}
 use Rattle.forest.proofs.Trials.{steps}
 use Rattle.history.specs.Holdings.{HoldsPairs, StandsAt, Whole, TakesOut}
 use Rattle.history.proofs.Holdings.{put-again}
 use Rattle.history.proofs.Places.{remove-at-holds}
-
--- any call and any move on the words of a pool keeps its promise with what the definitions say
-module _ (p : Pool) (w : WellFormed leafLeast p) where
-  pub call-made : (c : Call) → Calls leafLeast c (encode p) (encode ((call c p) .pool)) ((call c p) .answer)
-  call-made c = calls-by leafLeast (omega arith) c (encode p) _ _ (record { pool = p; formed = w; same = refl }) refl refl
-
-  pub move-made : (v : Move) (c : Cursor) → Moves leafLeast v c (encode p) (encode ((move v c p) .pool)) ((move v c p) .answer) ((move v c p) .cursor)
-  move-made v c = moves-by leafLeast (omega arith) v c (encode p) _ _ _ (record { pool = p; formed = w; same = refl }) refl refl refl
+use Rattle.history.proofs.Premises.{on-key, on-pool}
 
 -- Words: nine pairs in tree 0 and one in tree 1
 
@@ -54,6 +44,11 @@ nine-held = record { sound = record { pool = pool; formed = pool-formed; same = 
 
 pub one-held : (_≢_ {A = ℕ} 1 0) × HoldsPairs leafLeast words 1 ((5, 1) ∷ [])
 one-held = (λ e. omega arith, record { sound = record { pool = pool; formed = pool-formed; same = refl }; there = two-trees .1; same = two-lists .1 })
+
+-- a format that is done
+pub format-done : formatted 1 2 (length (replicate 38 0)) ≡ true
+unfolding steps
+format-done = refl
 
 -- two trees, and no third
 pub tree-word : (1 < getD words 0 0) × (getD words 0 0 ≤ 2)
@@ -79,7 +74,7 @@ pub grown-formed : WellFormed leafLeast grown
 grown-formed = call-formed leafLeast (omega arith) (omega arith) (put 0 37 1) pool pool-formed
 
 pub put-twice-done : ((call (put 0 37 1) grown) .answer ≡ Value 1) × (encode ((call (put 0 37 1) grown) .pool) ≡ encode grown)
-put-twice-done = put-again (call-made pool pool-formed (put 0 37 1)) put-done (call-made grown grown-formed (put 0 37 1))
+put-twice-done = put-again (on-key (put 0 37 1) pool pool-formed) put-done (on-key (put 0 37 1) grown grown-formed)
 
 pub get-refused : kept ((call (get 2 5) pool) .answer) ≡ false
 unfolding steps
@@ -137,4 +132,4 @@ nowhere = (refl, refl)
 
 -- 30 is taken out at its cursor
 pub thirty-taken : TakesOut leafLeast cursor (encode ((move to-remove cursor pool) .pool)) ((move to-remove cursor pool) .answer) ((move to-remove cursor pool) .cursor) nine 2 (30, 3)
-thirty-taken = remove-at-holds leafLeast (omega arith) (omega arith) (move-made pool pool-formed to-remove cursor) on-thirty
+thirty-taken = remove-at-holds leafLeast (omega arith) (omega arith) (on-pool to-remove cursor pool pool-formed) on-thirty

@@ -4,20 +4,21 @@ use mathlib.Core.List.{List, [], _∷_}
 use mathlib.Core.Bool.{true, false, true≢false}
 use mathlib.Core.Logic.{_≢_}
 use mathlib.Core.Option.{none, some}
-use Prim.Native.Nat.{ℕ, _≤_, _<_}
+use Prim.Native.Nat.{ℕ, zero, suc, _≤_, _<_}
 use native.Mathlib.Omega.{arith}
-use lib.ListN.{length, getD}
+use lib.ListN.{length, getD, replicate, length-replicate}
 use lib.Dec.{ltb, eqb}
 use borrow.Author.Tests.{ltb-true, ltb-false}
 use Rattle.forest.specs.Sizes.{leafCap, leafLeast}
 use Rattle.forest.specs.Pairs.{Item, Rising, lookup, has}
+use Rattle.forest.specs.Rows.{Tree}
 use Rattle.forest.specs.Trees.{pairs, need}
 use Rattle.forest.specs.declared.Reply.{Reply}
 use Rattle.forest.specs.declared.Reply.the-variants.{Value, Refused}
 use Rattle.forest.specs.declared.Refusal.{Refusal}
 use Rattle.forest.specs.declared.Refusal.the-variants.{NoTree, NoRoom}
 use Rattle.forest.specs.Answers.{held, kept}
-use Rattle.forest.specs.Pools.{Pool, Sound, encode, Call, put, remove, get, target, treeOf, refused, call, acts, keyOf}
+use Rattle.forest.specs.Pools.{Pool, Sound, Call, put, remove, get, target, treeOf, refused, call, acts, keyOf, fresh, formatted, formatWords}
 use Rattle.forest.specs.Promises.{Calls}
 use Rattle.forest.proofs.ListLaws.{is, isnt, test}
 use Rattle.forest.proofs.Reasons.{passes, stops, verdict}
@@ -25,15 +26,12 @@ use Rattle.forest.proofs.TreeLaws.{pairs-get}
 use Rattle.forest.proofs.PoolLaws.{good-at, call-free, call-refused, refused-two, refused-four, other-trees, same-trees, call-formed, call-pairs, call-answer, put-held, put-twice}
 use Rattle.forest.proofs.CallLaws.{room-exactly, get-same, remove-absent}
 use Rattle.forest.proofs.RunLaws.{kept-free, free-kept}
-use Rattle.forest.proofs.WordLaws.{first-word}
+use Rattle.forest.proofs.CountLaws.{format-in, fresh-formed}
+use Rattle.forest.proofs.PromiseLaws.{calls-same, trees-word}
 use Rattle.forest.proofs.UniqueLaws.{sound-pool}
 use Rattle.forest.proofs.Sentences.{keys-rise}
 use Rattle.history.specs.Holdings.{HoldsPairs, Listed, Does, Filed, filed, no-room}
 use Rattle.history.proofs.Deciding.{sound, unsound, decide}
-
--- the first word is the number of trees
-pub trees-word : {m : ℕ} {ws : List ℕ} (s : Sound m ws) → getD ws 0 0 ≡ length (s .pool .trees)
-trees-word s = ap (λ (u : List ℕ). getD u 0 0) (sym (s .same)) ∙ first-word (s .pool)
 
 -- The list
 
@@ -52,6 +50,22 @@ module _ (m : ℕ) (lo : 1 ≤ m) {ws : List ℕ} {t : ℕ} where
       let e = trees-word s in
       record { list = pairs (treeOf (s .pool) t); holds = record { sound = s; there = omega arith; same = refl } }
 
+-- after a format that is done each is empty
+empty-tree : (T t : ℕ) → getD {A = Tree} (replicate T []) t [] ≡ []
+empty-tree zero t = refl
+empty-tree (suc T) zero = refl
+empty-tree (suc T) (suc t) = empty-tree T t
+
+pub format-holds : (m T N t : ℕ) (ws : List ℕ) → formatted T N (length ws) ≡ true → t < T → HoldsPairs m (formatWords T N ws) t []
+unfolding formatWords
+format-holds m T N t ws e h =
+    let i = format-in T N (length ws) e in
+    rw e (record {
+      sound = record { pool = fresh T N; formed = fresh-formed m T N (i .0) (i .1) (i .2); same = refl };
+      there = rw length-replicate h;
+      same = ap pairs (empty-tree T t);
+    })
+
 -- Any call
 
 module _ (m : ℕ) (lo : 1 ≤ m) (hi : m ≤ 4) {c : Call} {ws us : List ℕ} {r : Reply} (k : Calls m c ws us r) where
@@ -66,10 +80,6 @@ module _ (m : ℕ) (lo : 1 ≤ m) (hi : m ≤ 4) {c : Call} {ws us : List ℕ} {
   -- and the answer
   answered : (s : Sound m ws) → (call c (s .pool)) .answer ≡ r
   answered s = k .sound-answer (s .pool) (s .formed) (s .same)
-
-  -- a pool that is as it was, in words
-  words-by : (s : Sound m ws) → (call c (s .pool)) .pool ≡ s .pool → us ≡ ws
-  words-by s e = sym (k .sound-words (s .pool) (s .formed) (s .same)) ∙ ap encode e ∙ s .same
 
   -- a call that the pool does not refuse, and one that it does
   pub does-by : {xs : List Item} (h : HoldsPairs m ws (target c) xs) → refused c (h .sound .pool) ≡ none → Does m c us r xs
@@ -87,7 +97,7 @@ module _ (m : ℕ) (lo : 1 ≤ m) (hi : m ≤ 4) {c : Call} {ws us : List ℕ} {
   pub refused-by : (s : Sound m ws) (x : Refusal) → refused c (s .pool) ≡ some x → (r ≡ Refused x) × (us ≡ ws)
   refused-by s x e =
       let d = call-refused c (s .pool) x e in
-      (sym (answered s) ∙ ap (λ z. z .answer) d, words-by s (ap (λ z. z .pool) d))
+      (sym (answered s) ∙ ap (λ z. z .answer) d, calls-same m k s (ap (λ z. z .pool) d))
 
   -- DEMAND 2, on words: a call that is not refused answers the value held, and the words then hold the list that it makes
   pub call-holds : {xs : List Item} → HoldsPairs m ws (target c) xs → kept r ≡ true → Does m c us r xs
@@ -132,7 +142,7 @@ module _ (m : ℕ) (lo : 1 ≤ m) (hi : m ≤ 4) {t x : ℕ} {ws us : List ℕ} 
   pub get-holds : Calls m (get t x) ws us r → HoldsPairs m ws t xs → Does m (get t x) us r xs × (us ≡ ws)
   get-holds k h = (
     does-by m lo hi k h (call-free (get t x) (h .sound .pool) (record { there = h .there; enough = omega arith })),
-    words-by m lo hi k (h .sound) (get-same t x (h .sound .pool)),
+    calls-same m k (h .sound) (get-same t x (h .sound .pool)),
   )
 
   -- remove: done
@@ -143,7 +153,7 @@ module _ (m : ℕ) (lo : 1 ≤ m) (hi : m ≤ 4) {t x : ℕ} {ws us : List ℕ} 
   pub remove-missing : Calls m (remove t x) ws us r → HoldsPairs m ws t xs → lookup x xs ≡ none → us ≡ ws
   remove-missing k h e =
       let n : has x (pairs (treeOf (h .sound .pool) t)) ≡ false = ap (has x) (h .same) ∙ missing x xs e in
-      words-by m lo hi k (h .sound) (ap (λ z. z .pool) (remove-absent m lo t x (h .sound .pool) (h .sound .formed) (h .there) n))
+      calls-same m k (h .sound) (ap (λ z. z .pool) (remove-absent m lo t x (h .sound .pool) (h .sound .formed) (h .there) n))
 
   module _ {v : ℕ} (k : Calls m (put t x v) ws us r) (h : HoldsPairs m ws t xs) where
     -- put: done, or refused for room
@@ -171,7 +181,7 @@ module _ (m : ℕ) (lo : 1 ≤ m) (hi : m ≤ 4) {t x : ℕ} {ws us : List ℕ} 
         let w = h .sound .formed in
         let g = pairs-get m leafCap x lo (treeOf p t) (good-at m (p .trees) t (w .good)) ∙ ap (lookup x) (h .same) ∙ e in
         let d = put-held m lo t x v p w (h .there) g in
-        (sym (answered m lo hi k (h .sound)) ∙ ap (λ z. z .answer) d, words-by m lo hi k (h .sound) (ap (λ z. z .pool) d))
+        (sym (answered m lo hi k (h .sound)) ∙ ap (λ z. z .answer) d, calls-same m k (h .sound) (ap (λ z. z .pool) d))
 
 -- a put that was done, made again, changes no word, whatever the words
 pub put-again : {t x v : ℕ} {ws us vs : List ℕ} {r s : Reply} → Calls leafLeast (put t x v) ws us r → kept r ≡ true → Calls leafLeast (put t x v) us vs s → (s ≡ Value v) × (vs ≡ us)
@@ -180,6 +190,6 @@ put-again {t} {x} {v} {ws} k e l = elim (decide ws) [
       let f : refused (put t x v) (o .pool) ≡ none = free-kept (put t x v) (o .pool) (ap kept (answered leafLeast (omega arith) (omega arith) k o) ∙ e) in
       let q = after-call leafLeast (omega arith) (omega arith) k o in
       let d = put-twice leafLeast (omega arith) (omega arith) t x v (o .pool) (o .formed) f in
-      (sym (answered leafLeast (omega arith) (omega arith) l q) ∙ ap (λ z. z .answer) d, words-by leafLeast (omega arith) (omega arith) l q (ap (λ z. z .pool) d))
+      (sym (answered leafLeast (omega arith) (omega arith) l q) ∙ ap (λ z. z .answer) d, calls-same leafLeast l q (ap (λ z. z .pool) d))
   | unsound n ↦ absurd (true≢false (sym e ∙ ap kept (k .unsound-answer n)))
 ]

@@ -1,5 +1,5 @@
 -- PROOFS. Demand 3 on words: acts go by the shape of their tree, so each tree does what its own acts alone would do
-use mathlib.Core.Path.{_≡_, refl, sym, ap, _∙_}
+use mathlib.Core.Path.{_≡_, refl, sym, ap, subst, _∙_}
 use mathlib.Core.List.{List, []}
 use mathlib.Core.Bool.{true, false}
 use mathlib.Core.Logic.{_≢_}
@@ -9,7 +9,7 @@ use Rattle.forest.specs.Rows.{Tree}
 use Rattle.forest.specs.declared.Reply.{Reply}
 use Rattle.forest.specs.Answers.{told, kept}
 use Rattle.forest.specs.Runs.{finally, replies, ownCalls, ownReplies}
-use Rattle.forest.specs.Pools.{Pool, WellFormed, encode, fresh, treeOf, calls, shape}
+use Rattle.forest.specs.Pools.{Pool, WellFormed, encode, fresh, treeOf, calls, shape, AllDone}
 use Rattle.forest.specs.Cursors.{leaves, pairAt, first, cursorAt, to-first, moveFrom}
 use Rattle.forest.proofs.KindLaws.{ByShape, alone}
 use Rattle.forest.proofs.RunLaws.{Room, calls-by-shape, fresh-room}
@@ -89,7 +89,7 @@ module _ (m : ℕ) (lo : 1 ≤ m) (hi : m ≤ 4) where
         answers = replies actKind (ownCalls actKind t cs (fresh T N)) (fresh T N);
         alone = rw o (ran m lo hi (ownCalls actKind t cs (fresh T N)) (fresh T N) f);
         same-answers = λ us bs g. sym (ran-answers m lo hi (rw o at g) (fresh T N) f refl) ∙ d .same-replies ∙ sym b;
-        all-done = rw (b, ← (d .same-replies)) (kept-done m lo hi (ownCalls actKind t cs (fresh T N)) (fresh T N) (d .all-kept));
+        all-done = λ us bs g. subst AllDone (ran-answers m lo hi (rw o at g) (fresh T N) f refl) (kept-done m lo hi (ownCalls actKind t cs (fresh T N)) (fresh T N) (d .all-kept));
         same-tree = λ us bs g. record {
           left = record { pool = finally actKind cs (fresh T N); formed = acts-formed m lo hi cs (fresh T N) f; same = ran-words m lo hi h (fresh T N) f refl };
           right = record {

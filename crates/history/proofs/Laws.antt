@@ -1,44 +1,30 @@
 -- PROOFS. Any public calls keep words sound; a promise settles its outcome
-use mathlib.Core.Path.{_≡_, refl, sym, ap, _∙_}
+use mathlib.Core.Path.{_≡_, refl, sym, ap}
 use mathlib.Core.List.{List}
 use mathlib.Core.Bool.{Bool, true, false}
-use Prim.Native.Nat.{ℕ, _+_, _*_, _≤_}
+use Prim.Native.Nat.{ℕ, _≤_}
 use native.Mathlib.Omega.{arith}
 use lib.ListN.{length}
-use lib.Dec.{eqb, leb}
-use borrow.Author.Tests.{eqb-true, leb-true}
-use Rattle.forest.specs.Sizes.{mostTrees, mostNodes, leafLeast}
+use Rattle.forest.specs.Sizes.{leafLeast}
 use Rattle.forest.specs.declared.Cursor.{Cursor}
 use Rattle.forest.specs.declared.Reply.{Reply}
-use Rattle.forest.specs.Pools.{Sound, encode, fresh, Call, call, formatted, formatWords}
+use Rattle.forest.specs.Pools.{Sound, Call, call, formatted, formatWords}
 use Rattle.forest.specs.Cursors.{Move}
 use Rattle.forest.specs.Promises.{Calls, Moves}
-use Rattle.forest.proofs.ListLaws.{is, isnt, test, four}
+use Rattle.forest.proofs.ListLaws.{is, isnt, test}
 use Rattle.forest.proofs.PoolLaws.{same-trees, same-count}
-use Rattle.forest.proofs.CountLaws.{fresh-formed, encode-length}
-use Rattle.forest.proofs.PromiseLaws.{calls-sound, moves-sound, one-outcome-sound, one-outcome-unsound}
+use Rattle.forest.proofs.CountLaws.{fresh-sound, encode-length}
+use Rattle.forest.proofs.PromiseLaws.{calls-sound, moves-sound, one-outcome-sound, one-outcome-unsound, one-move-sound, one-move-unsound}
 use Rattle.sound.specs.Exact.{Exact}
 use Rattle.history.proofs.Deciding.{sound, unsound, decide}
 use Rattle.history.specs.Histories.{AllSound, Event, Went, stays, formats, calls, moves, wentWords}
 
--- a format is done only where T, N and the length are as they must be
-pub format-in : (T N len : ℕ) → formatted T N len ≡ true → (1 ≤ T) × (T ≤ mostTrees) × (N ≤ mostNodes) × (len ≡ T + 17 * N + 3)
-unfolding formatted
-format-in T N len h =
-    let e = four (leb 1 T) (leb T mostTrees) (leb N mostNodes) (eqb len (T + 17 * N + 3)) h in
-    (leb-true _ _ (e .0), leb-true _ _ (e .1), leb-true _ _ (e .2), eqb-true _ _ (e .3))
-
 -- Soundness after every call, refused or not, from sound words or from words just formatted
 module _ (m : ℕ) (lo : 1 ≤ m) (hi : m ≤ 4) where
-  pub fresh-sound : (T N len : ℕ) → formatted T N len ≡ true → Sound m (encode (fresh T N))
-  fresh-sound T N len e =
-      let i = format-in T N len e in
-      record { pool = fresh T N; formed = fresh-formed m T N (i .0) (i .1) (i .2); same = refl }
-
   format-sound : (T N : ℕ) (ws : List ℕ) → Sound m ws → Sound m (formatWords T N ws)
   unfolding formatWords
   format-sound T N ws s = elim (test (formatted T N (length ws))) [
-    | is e ↦ simp e (fresh-sound T N (length ws) e)
+    | is e ↦ simp e (fresh-sound m T N (length ws) e)
     | isnt e ↦ simp e s
   ]
 
@@ -90,19 +76,8 @@ same-length c before after r k = elim (decide before) [
 
 module _ (v : Move) (c : Cursor) (before x y : List ℕ) (r s : Reply) (d e : Cursor)
     (a : Moves leafLeast v c before x r d) (b : Moves leafLeast v c before y s e) where
-  outcome-sound : Sound leafLeast before → (x ≡ y) × (r ≡ s) × (d ≡ e)
-  outcome-sound o = (
-    sym (a .sound-words (o .pool) (o .formed) (o .same)) ∙ b .sound-words (o .pool) (o .formed) (o .same),
-    sym (a .sound-answer (o .pool) (o .formed) (o .same)) ∙ b .sound-answer (o .pool) (o .formed) (o .same),
-    sym (a .sound-cursor (o .pool) (o .formed) (o .same)) ∙ b .sound-cursor (o .pool) (o .formed) (o .same),
-  )
-
-  outcome-unsound : (Sound leafLeast before → ⊥) → (x ≡ y) × (r ≡ s) × (d ≡ e)
-  outcome-unsound n = (
-    a .unsound-words n ∙ sym (b .unsound-words n),
-    a .unsound-answer n ∙ sym (b .unsound-answer n),
-    a .unsound-cursor n ∙ sym (b .unsound-cursor n),
-  )
-
   pub one-move-outcome : (x ≡ y) × (r ≡ s) × (d ≡ e)
-  one-move-outcome = elim (decide before) [ sound o ↦ outcome-sound o | unsound n ↦ outcome-unsound n ]
+  one-move-outcome = elim (decide before) [
+    | sound o ↦ one-move-sound leafLeast v c before x y r s d e a b o
+    | unsound n ↦ one-move-unsound leafLeast v c before x y r s d e a b n
+  ]

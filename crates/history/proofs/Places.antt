@@ -16,22 +16,23 @@ use Rattle.forest.specs.declared.Reply.the-variants.{Nothing, Refused}
 use Rattle.forest.specs.declared.Refusal.the-variants.{NoTree, NoPlace}
 use Rattle.forest.specs.declared.Cursor.{Cursor}
 use Rattle.forest.specs.Answers.{told, kept}
-use Rattle.forest.specs.Pools.{Pool, WellFormed, Sound, encode, treeOf}
-use Rattle.forest.specs.Cursors.{Spot, on, leaves, pairAt, seek, position, spotAt, pathOf, spotOf, pathIn, stands, Move, to-first, to-key, to-next, to-prev, to-settled, to-remove, reads, blocked, moveFrom, move}
+use Rattle.forest.specs.Pools.{Pool, WellFormed, Sound, treeOf}
+use Rattle.forest.specs.Cursors.{Spot, off, leaves, pairAt, seek, position, spotAt, pathOf, spotOf, pathIn, stands, Move, to-first, to-key, to-next, to-prev, to-settled, to-remove, reads, blocked, moveFrom, move}
 use Rattle.forest.specs.Promises.{Moves}
 use Rattle.forest.proofs.ListLaws.{same, length-removeAt}
 use Rattle.forest.proofs.Reasons.{passes, stops, verdict}
 use Rattle.forest.proofs.PoolLaws.{good-at}
-use Rattle.forest.proofs.CursorLaws.{nth-lt}
+use Rattle.forest.proofs.RowLaws.{sum-sizes}
+use Rattle.forest.proofs.CursorLaws.{nth-lt, leaves-joined}
 use Rattle.forest.proofs.StandLaws.{stands-fits, stands-yes}
 use Rattle.forest.proofs.Six.{six-levels}
 use Rattle.forest.proofs.CursorCalls.{move-done, move-refused, move-reads, move-formed, moved-stands}
 use Rattle.forest.proofs.MoveLaws.{row, list, spotIn, rank, seek-rank, MovesTo, first-goes, seek-goes, settle-goes, next-goes, next-past-goes, prev-goes, prev-first-goes, move-two, move-three, move-free}
 use Rattle.forest.proofs.RemoveLaws.{remove-goes, remove-none, move-other-trees}
+use Rattle.forest.proofs.PromiseLaws.{moves-same, trees-word}
 use Rattle.history.specs.Holdings.{HoldsPairs, StandsAt, Whole, Comes, Arrives, Remains, Seeks, TakesOut}
 use Rattle.history.proofs.Deciding.{sound, unsound, decide}
-use Rattle.history.proofs.Holdings.{trees-word}
-use Rattle.history.proofs.Spots.{spot-back, place-pair, position-le, place-rank, seek-found, move-trees, whole-at, one-cursor, done-kept}
+use Rattle.history.proofs.Spots.{spot-back, place-pair, position-le, place-rank, place-off, seek-found, move-trees, whole-at, one-cursor, off-size, size-off, done-kept}
 
 -- Any move
 
@@ -52,13 +53,10 @@ module _ (m : ℕ) (lo : 1 ≤ m) (hi : m ≤ 4) {v : Move} {c d : Cursor} {ws u
   handed s = k .sound-cursor (s .pool) (s .formed) (s .same)
 
   -- a pool that is as it was, in words
-  words-by : (s : Sound m ws) → (move v c (s .pool)) .pool ≡ s .pool → us ≡ ws
-  words-by s e = sym (k .sound-words (s .pool) (s .formed) (s .same)) ∙ ap encode e ∙ s .same
-
   -- and with it the cursor
   remains-by : (s : Sound m ws) {a : Reply} → move v c (s .pool) ≡ record { answer = a; cursor = c; pool = s .pool } → Remains c ws us r d a
   remains-by s e = record {
-    words = words-by s (ap (λ z. z .pool) e);
+    words = moves-same m k s (ap (λ z. z .pool) e);
     answer = sym (answered s) ∙ ap (λ z. z .answer) e;
     cursor = sym (handed s) ∙ ap (λ z. z .cursor) e;
   }
@@ -118,24 +116,34 @@ module _ (m : ℕ) (lo : 1 ≤ m) (hi : m ≤ 4) {v : Move} {c d : Cursor} {ws u
           };
         })
 
+    -- off the end it has size 0
+    ends : {a : Reply} {x : Spot} → MovesTo (move v c (s .pool)) a x → x ≡ off → d .size ≡ 0
+    ends g x =
+        let y : spotOf (treeOf q (c .tree)) (pathIn z) ≡ off = subst (λ (u : ℕ). spotOf (treeOf q u) (pathIn z) ≡ off) of-tree (g .spot ∙ x) in
+        ap (λ (u : Cursor). u .size) (sym (handed s)) ∙ off-size (treeOf q (c .tree)) z whole stood y
+
     -- any move but a remove
     module _ (n : v ≢ to-remove) where
       unchanged : q ≡ s .pool
       unchanged = move-reads m lo hi v c (s .pool) n
 
+      same-words : us ≡ ws
+      same-words = moves-same m k s unchanged
+
       -- to a spot
-      goes-to : {a : Reply} {x : Spot} {i : ℕ} {o : Option Item} → MovesTo (move v c (s .pool)) a x →
-          position (row (s .pool) c) x ≡ i → pairAt (row (s .pool) c) x ≡ o → Arrives m c ws us r d a (list (s .pool) c) i o
-      goes-to g b y = record {
-        words = words-by s unchanged;
-        answer = sym (answered s) ∙ g .answers;
-        comes = comes g (rw unchanged) (rw unchanged b) (rw unchanged y);
-      }
+      comes-to : {a : Reply} {x : Spot} {i : ℕ} {o : Option Item} → MovesTo (move v c (s .pool)) a x →
+          position (row (s .pool) c) x ≡ i → pairAt (row (s .pool) c) x ≡ o → Comes m c us d (list (s .pool) c) i o
+      comes-to g b y = comes g (rw unchanged) (rw unchanged b) (rw unchanged y)
 
       -- to the j-th pair
       goes-place : {a : Reply} {j : ℕ} → j ≤ length (list (s .pool) c) → MovesTo (move v c (s .pool)) a (spotAt (row (s .pool) c) j) →
           Arrives m c ws us r d a (list (s .pool) c) j (getElem? (list (s .pool) c) j)
-      goes-place {j = j} h g = goes-to g (place-rank (treeOf (s .pool) (c .tree)) j h) (place-pair (treeOf (s .pool) (c .tree)) j)
+      goes-place {j = j} h g = record {
+        words = same-words;
+        answer = sym (answered s) ∙ g .answers;
+        comes = comes-to g (place-rank (treeOf (s .pool) (c .tree)) j h) (place-pair (treeOf (s .pool) (c .tree)) j);
+        ended = λ l. ends g (place-off (treeOf (s .pool) (c .tree)) j l);
+      }
 
       -- to where it was
       remains-at : Whole c → stands (treeOf (s .pool) (c .tree)) c ≡ true → {a : Reply} → MovesTo (move v c (s .pool)) a (spotIn (s .pool) c) → Remains c ws us r d a
@@ -144,7 +152,7 @@ module _ (m : ℕ) (lo : 1 ≤ m) (hi : m ≤ 4) {v : Move} {c d : Cursor} {ws u
           let x : spotOf (treeOf p (c .tree)) (pathIn z) ≡ spotIn p c = subst (λ (u : ℕ). spotOf (treeOf p u) (pathIn z) ≡ spotIn p c) of-tree (subst (λ (u : Pool). spotIn u z ≡ spotIn p c) unchanged (g .spot)) in
           let o : stands (treeOf p (c .tree)) z ≡ true = subst (λ (u : Pool). stands (treeOf u (c .tree)) z ≡ true) unchanged stood in
           record {
-            words = words-by s unchanged;
+            words = same-words;
             answer = sym (answered s) ∙ g .answers;
             cursor = sym (handed s) ∙ one-cursor (treeOf p (c .tree)) c z w whole of-tree y o x;
           }
@@ -181,6 +189,13 @@ module _ (m : ℕ) (lo : 1 ≤ m) {c : Cursor} {ws : List ℕ} {xs : List Item} 
     free : (v : Move) → blocked v c (s .holds .sound .pool) ≡ none
     free v = move-free v c (s .holds .sound .pool) (s .holds .there) (λ z. s .standing)
 
+    -- off the end it is at the place behind all pairs
+    at-end : c .size ≡ 0 → spotAt (row (s .holds .sound .pool) c) (rank (s .holds .sound .pool) c) ≡ spotIn (s .holds .sound .pool) c
+    at-end z =
+        let p = s .holds .sound .pool in
+        rw (size-off (treeOf p (c .tree)) c z)
+        (place-off (treeOf p (c .tree)) _ (omega (arith, sum-sizes (leaves (treeOf p (c .tree))) ∙ ap length (leaves-joined (treeOf p (c .tree))))))
+
     -- no more pairs come before it than there are
     few : rank (s .holds .sound .pool) c ≤ length (list (s .holds .sound .pool) c)
     few = let p = s .holds .sound .pool in position-le (treeOf p (c .tree)) (spotIn p c) (stands-fits (treeOf p (c .tree)) c (s .standing))
@@ -203,8 +218,10 @@ module _ (m : ℕ) (lo : 1 ≤ m) (hi : m ≤ 4) {c d : Cursor} {ws us : List �
       let g : Good m leafCap t = good-at m (p .trees) (c .tree) (h .sound .formed .good) in
       let e : blocked (to-key x) c (h .sound .pool) ≡ none = move-free (to-key x) c p (h .there) (λ r. absurd (true≢false (sym r))) in
       rw (← (h .same)) (record {
+        words = same-words m lo hi k (h .sound) (h .there) e (λ z. true≢false (cc));
+        answer = sym (answered m lo hi k (h .sound)) ∙ (seek-goes m lo hi p (h .sound .formed) c x e) .answers;
         on = pairAt (leaves t) (seek x (leaves t));
-        goes = goes-to m lo hi k (h .sound) (h .there) e (λ z. true≢false (cc)) (seek-goes m lo hi p (h .sound .formed) c x e) (seek-rank m x t lo g) refl;
+        comes = comes-to m lo hi k (h .sound) (h .there) e (λ z. true≢false (cc)) (seek-goes m lo hi p (h .sound .formed) c x e) (seek-rank m x t lo g) refl;
         found = λ v q. seek-found m x v t lo g q;
       })
 
@@ -273,7 +290,29 @@ module _ (m : ℕ) (lo : 1 ≤ m) (hi : m ≤ 4) {c d : Cursor} {ws us : List �
           comes =
               comes m lo hi k (h .sound) (h .there) e (record { answers = g .value; spot = g .comes })
               (g .left) (place-rank (treeOf ((move to-remove c p) .pool) (c .tree)) (rank p c) f) (g .on-next);
+          ended = λ n.
+              ends m lo hi k (h .sound) (h .there) e (record { answers = g .value; spot = g .comes })
+              (place-off (treeOf ((move to-remove c p) .pool) (c .tree)) (rank p c) (rw (g .left) (omega (arith, length-removeAt (rank p c) (list p c) l))));
         })
+
+    -- at size 0 settle and next leave it, and tell none
+    module _ {o : Option Item} (s : StandsAt m ws c xs i o) (z : c .size ≡ 0) (w : Whole c) where
+      pub settle-off : Moves m to-settled c ws us r d → Remains c ws us r d Nothing
+      settle-off k =
+          let h = s .holds in
+          let e = free m lo s to-settled in
+          let g = settle-goes m lo hi (h .sound .pool) (h .sound .formed) c e in
+          remains-at m lo hi k (h .sound) (h .there) e (λ z. true≢false (cc)) w (s .standing) (record { answers = g .answers; spot = g .spot ∙ at-end m lo s z })
+
+      pub next-off : Moves m to-next c ws us r d → Remains c ws us r d Nothing
+      next-off k =
+          let h = s .holds in
+          let p = h .sound .pool in
+          let e = free m lo s to-next in
+          let n : pairAt (row p c) (spotIn p c) ≡ none = rw (size-off (treeOf p (c .tree)) c z) in
+          let g = next-past-goes m lo hi p (h .sound .formed) c e n in
+          let t : told (getElem? (list p c) (rank p c)) ≡ Nothing = ap told (sym (place-pair (treeOf p (c .tree)) (rank p c)) ∙ ap (pairAt (row p c)) (at-end m lo s z) ∙ n) in
+          remains-at m lo hi k (h .sound) (h .there) e (λ z. true≢false (cc)) w (s .standing) (record { answers = g .answers ∙ t; spot = g .spot ∙ at-end m lo s z })
 
     -- on no pair nothing does
     pub remove-stays : Moves m to-remove c ws us r d → StandsAt m ws c xs i none → Whole c → Remains c ws us r d Nothing

@@ -65,7 +65,7 @@ pub on-pool : (v : Move) (c : Cursor) (p : Pool) → WellFormed leafLeast p → 
 on-pool v c p w = moves-by leafLeast (omega arith) v c _ _ _ _ (record { pool = p; formed = w; same = refl }) refl refl refl
 
 -- a call on the words of a pool
-on-key : (c : Call) (p : Pool) → WellFormed leafLeast p → Calls leafLeast c (encode p) (encode ((call c p) .pool)) ((call c p) .answer)
+pub on-key : (c : Call) (p : Pool) → WellFormed leafLeast p → Calls leafLeast c (encode p) (encode ((call c p) .pool)) ((call c p) .answer)
 on-key c p w = calls-by leafLeast (omega arith) c _ _ _ (record { pool = p; formed = w; same = refl }) refl refl
 
 -- public calls in two trees of a pool of one node: tree 1 is refused for room, tree 2 is not there, a format is refused for its length; 9 is taken at a cursor, which

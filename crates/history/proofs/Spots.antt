@@ -58,6 +58,10 @@ position-le t s f = let e = sum-sizes (leaves t) ∙ ap length (leaves-joined t)
 pub place-rank : (t : Tree) (i : ℕ) → i ≤ length (pairs t) → position (leaves t) (spotAt (leaves t) i) ≡ i
 place-rank t i h = rank-at (leaves t) i (omega (arith, sum-sizes (leaves t) ∙ ap length (leaves-joined t)))
 
+-- with no pair left it is off the end
+pub place-off : (t : Tree) (i : ℕ) → length (pairs t) ≤ i → spotAt (leaves t) i ≡ off
+place-off t i h = let e = sum-sizes (leaves t) ∙ ap length (leaves-joined t) in simp (le-ltb i (sum (sizes (leaves t))) (omega arith))
+
 -- a key that is held stands at its place
 lookup-place : (k v : ℕ) (xs : List Item) → Rising xs → lookup k xs ≡ some v → getElem? xs (place k xs) ≡ some (k, v)
 lookup-place k v [] r h = absurd (let y : _≡_ {A = ℕ} 0 1 = cc in omega arith)
@@ -104,6 +108,14 @@ whole-at t path = record { nodes = length-pad mostLevels (map (λ (q : ℕ × �
 -- two whole cursors that stand at the same spot of a tree are the same
 pub one-cursor : (t : Tree) (c d : Cursor) → Whole c → Whole d → d .tree ≡ c .tree → stands t c ≡ true → stands t d ≡ true → spotOf t (pathIn d) ≡ spotOf t (pathIn c) → d ≡ c
 one-cursor t c d a b e s z q = sym (stays t d (b .nodes) (b .places) z) ∙ (λ i. cursorAt (e i) (pathOf t (q i))) ∙ stays t c (a .nodes) (a .places) s
+
+-- off the end is size 0, and no other size
+pub off-size : (t : Tree) (c : Cursor) → Whole c → stands t c ≡ true → spotOf t (pathIn c) ≡ off → c .size ≡ 0
+off-size t c w s e = sym (ap (λ (u : Cursor). u .size) (rw e at (stays t c (w .nodes) (w .places) s)))
+
+pub size-off : (t : Tree) (c : Cursor) → c .size ≡ 0 → spotOf t (pathIn c) ≡ off
+size-off [] c e = refl
+size-off (L ∷ Rs) c e = rw e
 
 -- what a move that is done answers is no refusal
 told-kept : (o : Option Item) → kept (told o) ≡ true

@@ -108,7 +108,7 @@ pub record Independent (m t : ℕ) (ws : List ℕ) (cs : List Act) (vs : List �
   pub answers : List Reply
   pub alone : Ran m (ownOf t cs rs) ws words answers
   pub same-answers : (us : List ℕ) (bs : List Reply) → Ran m (ownOf t cs rs) ws us bs → bs ≡ answersOf t cs rs
-  pub all-done : AllDone (answersOf t cs rs)
+  pub all-done : (us : List ℕ) (bs : List Reply) → Ran m (ownOf t cs rs) ws us bs → AllDone bs
   pub same-tree : (us : List ℕ) (bs : List Reply) → Ran m (ownOf t cs rs) ws us bs → SameTree m t vs us
 
 -- Any public calls
@@ -177,7 +177,7 @@ abbrev pub countIn : {A : Type 0} → Option Act → (Act → A) → List A → 
 countIn none x xs = xs
 countIn (some a) x xs = x a ∷ xs
 
--- the acts that events on a pool count cs
+-- the acts that events on a pool count as
 abbrev pub actsOf : List Event → Pool → List Act
 actsOf [] p = []
 actsOf (d ∷ ds) p = countIn (eventAct d p) (λ a. a) (actsOf ds (eventPool d p))

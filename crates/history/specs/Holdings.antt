@@ -3,7 +3,7 @@ use mathlib.Core.Path.{_≡_}
 use mathlib.Core.List.{List}
 use mathlib.Core.Bool.{true}
 use mathlib.Core.Option.{Option, some}
-use Prim.Native.Nat.{ℕ, suc, _<_}
+use Prim.Native.Nat.{ℕ, suc, _≤_, _<_}
 use lib.ListN.{length, getElem?}
 use Rattle.forest.specs.Sizes.{mostLevels}
 use Rattle.forest.specs.Lists.{removeAt}
@@ -62,11 +62,12 @@ pub record Comes (m : ℕ) (c : Cursor) (us : List ℕ) (d : Cursor) (xs : List 
   pub whole : Whole d
   pub stood : StandsAt m us d xs i o
 
--- a move changes no word, it answers a, and its cursor has i pairs before it and is on o
+-- a move changes no word, it answers a, and its cursor has i pairs before it and is on o; with no pair left it is off the end
 pub record Arrives (m : ℕ) (c : Cursor) (ws us : List ℕ) (r : Reply) (d : Cursor) (a : Reply) (xs : List Item) (i : ℕ) (o : Option Item) : Type 0 where
   pub words : us ≡ ws
   pub answer : r ≡ a
   pub comes : Comes m c us d xs i o
+  pub ended : length xs ≤ i → d .size ≡ 0
 
 -- a move changes neither word nor cursor, bit for bit, and it answers a
 pub record Remains (c : Cursor) (ws us : List ℕ) (r : Reply) (d : Cursor) (a : Reply) : Type 0 where
@@ -76,12 +77,15 @@ pub record Remains (c : Cursor) (ws us : List ℕ) (r : Reply) (d : Cursor) (a :
 
 -- a seek of k: the value held, and the place of the key; where the key is held the cursor is on its pair
 pub record Seeks (m k : ℕ) (c : Cursor) (ws us : List ℕ) (r : Reply) (d : Cursor) (xs : List Item) : Type 0 where
+  pub words : us ≡ ws
+  pub answer : r ≡ held (lookup k xs)
   pub on : Option Item
-  pub goes : Arrives m c ws us r d (held (lookup k xs)) xs (place k xs) on
+  pub comes : Comes m c us d xs (place k xs) on
   pub found : (v : ℕ) → lookup k xs ≡ some v → on ≡ some (k, v)
 
--- a remove at a cursor on y, the i-th pair: y goes, its value is answered, and the cursor has its place, on the pair that came after it
+-- a remove at a cursor on y, the i-th pair: y goes, its value is answered, and the cursor has its place, on the pair that came after it, or off the end
 pub record TakesOut (m : ℕ) (c : Cursor) (us : List ℕ) (r : Reply) (d : Cursor) (xs : List Item) (i : ℕ) (y : Item) : Type 0 where
   pub answer : r ≡ Value (y .1)
   pub holds : HoldsPairs m us (c .tree) (removeAt i xs)
   pub comes : Comes m c us d (removeAt i xs) i (getElem? xs (suc i))
+  pub ended : length xs ≤ suc i → d .size ≡ 0

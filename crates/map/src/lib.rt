@@ -18,7 +18,7 @@ enum Pass {
     Shut(Refusal),
 }
 
-// The number of trees, or 2 where there is no such tree.
+// The number of trees, or that there is no such tree.
 fn gate(ws: &[u32], tree: u32) -> Pass
     requires { ⌜ Sound leafLeast (now ws) ⌝ }
     ensures { λ r. ⌜ Gates (now (ws .entry)) tree r ⌝ }
@@ -30,7 +30,7 @@ fn gate(ws: &[u32], tree: u32) -> Pass
     Pass::Open(t)
 }
 
-// The number of trees, or 2 where there is no such tree, or 3 where the cursor does not stand.
+// The number of trees, or that there is no such tree, or that the cursor does not stand.
 fn admit(ws: &[u32], at: Cursor) -> Pass
     requires { ⌜ Sound leafLeast (now ws) ⌝ }
     ensures { λ r. ⌜ Admits (now (ws .entry)) at r ⌝ }

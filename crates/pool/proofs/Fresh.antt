@@ -6,16 +6,15 @@ use Prim.Native.Nat.{ℕ, zero, suc, _+_, _-_, _*_, _≤_, _<_}
 use native.Mathlib.Omega.{arith}
 use lib.ListN.{length, take, getD, set, replicate, length-append, length-replicate, length-set, replicate-append-replicate}
 use lib.Seq.{take-length, paste, paste-zero}
-use lib.Dec.{eqb, leb}
-use borrow.Author.Tests.{le-leb, lt-leb, eqb-true, leb-true}
+use lib.Dec.{eqb}
+use borrow.Author.Tests.{le-leb, lt-leb}
 use Rattle.forest.specs.Sizes.{mostTrees, mostNodes}
 use Rattle.forest.specs.Lists.{pad}
 use Rattle.forest.specs.Rows.{Tree}
 use Rattle.forest.specs.declared.Refusal.the-variants.{NoFormat}
 use Rattle.forest.specs.declared.Reply.the-variants.{Nothing, Refused}
 use Rattle.forest.specs.Pools.{inTrees, nodeWords, nodesFrom, root, encode, fresh, fresh-stack, formatted, formatWords, formatAnswer, Sound}
-use Rattle.forest.proofs.CountLaws.{fresh-formed}
-use Rattle.forest.proofs.ListLaws.{four}
+use Rattle.forest.proofs.CountLaws.{format-in, fresh-sound}
 use Rattle.pool.specs.Stores.{patched, down}
 use Rattle.pool.proofs.Patches.{copied-in, set-patched, begun, patched-length}
 
@@ -142,8 +141,7 @@ module _ (ws : List ℕ) (T N : ℕ) (long : length ws ≡ T + 17 * N + 3) where
 -- what the tests say
 module _ (T N len : ℕ) where
   pub formatted-fits : formatted T N len ≡ true → len ≡ T + 17 * N + 3
-  unfolding formatted
-  formatted-fits h = eqb-true len (T + 17 * N + 3) (four (leb 1 T) (leb T mostTrees) (leb N mostNodes) _ h .3)
+  formatted-fits h = format-in T N len h .3
 
   pub few-trees : T ≡ 0 → formatted T N len ≡ false
   unfolding formatted
@@ -180,7 +178,5 @@ module _ (T N : ℕ) (ws : List ℕ) where
 
 -- formatted words are sound, whatever the minimum of a leaf
 pub format-sound : (m T N : ℕ) (ws : List ℕ) → formatted T N (length ws) ≡ true → Sound m (formatWords T N ws)
-unfolding formatWords formatted
-format-sound m T N ws h =
-    let a = four (leb 1 T) (leb T mostTrees) (leb N mostNodes) _ h in
-    rw h (record { pool = fresh T N; formed = fresh-formed m T N (leb-true 1 T (a .0)) (leb-true T mostTrees (a .1)) (leb-true N mostNodes (a .2)); same = refl })
+unfolding formatWords
+format-sound m T N ws h = rw h (fresh-sound m T N (length ws) h)
