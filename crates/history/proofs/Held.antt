@@ -46,7 +46,7 @@ pub one-held : (_≢_ {A = ℕ} 1 0) × HoldsPairs leafLeast words 1 ((5, 1) ∷
 one-held = (λ e. omega arith, record { sound = record { pool = pool; formed = pool-formed; same = refl }; there = two-trees .1; same = two-lists .1 })
 
 -- a format that is done
-pub format-done : formatted 1 2 (length (replicate 38 0)) ≡ true
+pub format-done : formatted 1 2 (length {A = ℕ} (replicate 38 0)) ≡ true
 unfolding steps
 format-done = refl
 
