@@ -5,6 +5,8 @@ ghost use lib.ListN.{length};
 ghost use Rattle.requests.specs.Text.{lines};
 ghost use Rattle.requests.specs.Turns.{room, wantsOf, spoken};
 ghost use Rattle.requests.specs.Program.{TakesTurn, Replays};
+use forest::MAX_NODES;
+use forest::MAX_TREES;
 use libc::STDIN_FILENO;
 use libc::STDOUT_FILENO;
 use requests::Got;
@@ -13,6 +15,9 @@ use requests::Said;
 use requests::Stage;
 use requests::Taken;
 use requests::Told;
+
+// The words of the largest pool.
+const ROOM: usize = MAX_TREES as usize + 17 * MAX_NODES as usize + 3;
 
 // Reads until the bytes are full or the input ends.
 fn fill(bytes: &mut [u8]) -> Got
@@ -93,6 +98,6 @@ fn run(pool: &mut [u32]) -> Taken
 }
 
 fn main() {
-    let mut pool = requests::space();
+    let mut pool = [0u32; ROOM];
     run(&mut pool);
 }

@@ -11,7 +11,7 @@ use Rattle.forest.specs.declared.Answer.{Answer}
 use Rattle.forest.specs.Answers.{refusal, answerOf}
 use Rattle.forest.specs.Pools.{Call, fresh, formatted, formatWords, formatAnswer}
 use Rattle.forest.proofs.ListLaws.{test, is, isnt}
-use Rattle.forest.proofs.CountLaws.{encode-length}
+use Rattle.forest.proofs.CountLaws.{format-in, encode-length}
 use Rattle.history.proofs.Laws.{same-length}
 use Rattle.history.proofs.Premises.{honest, honest-keeps}
 use Rattle.requests.specs.declared.Stage.{Stage}

@@ -14,9 +14,8 @@ use Rattle.forest.specs.declared.Answer.{Answer}
 use Rattle.forest.specs.Answers.{refusal, answerOf}
 use Rattle.forest.specs.Pools.{Pool, WellFormed, encode, Call, fresh, formatted, formatWords, formatAnswer}
 use Rattle.forest.proofs.ListLaws.{test, is, isnt}
-use Rattle.forest.proofs.CountLaws.{fresh-formed}
+use Rattle.forest.proofs.CountLaws.{fresh-formed, format-in}
 use Rattle.forest.proofs.PoolLaws.{call-formed}
-use Rattle.forest.proofs.CountLaws.{format-in}
 use Rattle.requests.specs.declared.Stage.{Stage}
 use Rattle.requests.specs.declared.Stage.the-variants.{Kind, Sizes, Count, Request, Stopped}
 use Rattle.requests.specs.declared.Said.the-variants.{Line}

@@ -8,16 +8,12 @@ ghost use Rattle.forest.specs.Answers.{answerOf};
 ghost use Rattle.forest.specs.Answers.{refusal as refusal-of};
 ghost use Rattle.requests.specs.Text.{digitsOf, line, lines};
 ghost use Rattle.requests.specs.Replay.{wordAt, asked};
-ghost use Rattle.requests.specs.Turns.{room, wantsOf, spoken, goes, stops, asking, afterKind, afterFormat, afterCount};
+ghost use Rattle.requests.specs.Turns.{wantsOf, spoken, goes, stops, asking, afterKind, afterFormat, afterCount};
 ghost use Rattle.requests.specs.Turns.{Heeds, Sized, Requested, Turned, rank};
 ghost use Rattle.requests.specs.Program.{bytesOf, following};
 use forest::Answer;
-use forest::MAX_NODES;
-use forest::MAX_TREES;
 use forest::Reply;
 
-// The words of the largest pool.
-const ROOM: usize = MAX_TREES as usize + 17 * MAX_NODES as usize + 3;
 // The first word of a delivery.
 const KIND: u32 = 2;
 // Requests of a delivery at most.
@@ -78,13 +74,6 @@ pub struct Taken {
     pub read: Piece,
     pub turn: Turn,
     pub told: Told,
-}
-
-// Room for the largest pool.
-pub fn space() -> [u32; ROOM]
-    ensures { λ r. ⌜ length r ≡ room ⌝ }
-{
-    [0; ROOM]
 }
 
 // The bytes that a stage reads.
