@@ -1,5 +1,5 @@
 -- DEFINITIONS and PROOFS. A path through stacked rows; the right neighbour, the critical keys, and one store at the branch level
-use mathlib.Core.Path.{◌≡◌, refl, sym, ap, ◌∙◌}
+use mathlib.Core.Path.{subst, ◌≡◌, refl, sym, ap, ◌∙◌}
 use mathlib.Core.List.{List, [], ◌∷◌, ◌++◌, map}
 use mathlib.Core.Bool.{true, false}
 use mathlib.Core.Option.{none, some}
@@ -122,22 +122,24 @@ module _ (st : Store) (ns ps : ℕ → ℕ) where
             let w : set (st (ns (length Ss))) (suc (ps (length Ss))) k ≡ inner_words (rekey_at (suc (offset (sizes S) j)) k (items_at S (parent (sizes S) j))) =
             rw (r.words, r.place) (inner_set (offset (sizes S) j) k (items_at S (parent (sizes S) j)) g r.few) in
             let nn = path_node S (parent (sizes S) j) Ss ns ps p.2 in
-            simp (e, y, z, ne_eqb (suc (offset (sizes S) j)) 0 (omega arith)) (
+            let v : right_set st ns ps (length (S ∷ Ss)) k ≡ put st (ns (length Ss)) (set (st (ns (length Ss))) (suc (ps (length Ss))) k) = simp e refl in
+            subst (λ (x : Store). HoldsUp x (set_key (suc j) k (S ∷ Ss))) (sym v) (simp (y, z, ne_eqb (suc (offset (sizes S) j)) 0 (omega arith)) (
               rw nn (holds_upd inner_words st S (parent (sizes S) j) (rekey_at (suc (offset (sizes S) j)) k) _ r.par (λ q. omega (arith, a q)) (rw nn at w) hs.0),
               up_apart st (put st (ns (length Ss)) (set (st (ns (length Ss))) (suc (ps (length Ss))) k)) (nums S) Ss
                   (put_keeps st (ns (length Ss)) _ (nums S) (rw nn (num_at-counts S (parent (sizes S) j) r.par))) a hs.1,
-            )
+            ))
         | across x y z ↦
             let e : more st ns ps (length Ss) ≡ false = m ∙ le-ltb (suc (offset (sizes S) j)) (length (items_at S (parent (sizes S) j))) (omega (arith, r.wide)) in
             let n2 : suc (parent (sizes S) j) < length S =
             rw y at (parent_there S (suc j) (omega arith)) in
-            simp (e, y, z, eq-eqb 0 0 refl) (
+            let v : right_set st ns ps (length (S ∷ Ss)) k ≡ right_set st ns ps (length Ss) k = simp e refl in
+            subst (λ (x : Store). HoldsUp x (set_key (suc j) k (S ∷ Ss))) (sym v) (simp (y, z, eq-eqb 0 0 refl) (
               holds_apart inner_words st (right_set st ns ps (length Ss) k) (numbers Ss) (upd (suc (parent (sizes S) j)) (rekey_at 0 k) S)
                   (right_set-keeps S (parent (sizes S) j) k Ss r.par s.2 hs.1 p.2)
                   (λ q. rw (upd-nums (suc (parent (sizes S) j)) (rekey_at 0 k) S) (omega (arith, a q)))
                   (holds_same inner_words st S (suc (parent (sizes S) j)) (rekey_at 0 k) (inner_first k (items_at S (suc (parent (sizes S) j)))) hs.0),
               right_set_holds S (parent (sizes S) j) k Ss n2 s.2 (λ q. omega (arith, a q)) hs.1 p.2,
-            )
+            ))
       ]
 
   -- the key of the node itself changes in all rows: one word changes, none at the far left
@@ -166,22 +168,24 @@ module _ (st : Store) (ns ps : ℕ → ℕ) where
         | is e ↦
             let z : offset (sizes S) j ≡ 0 = eqb-true _ _ e in
             let t : eqb (ps (length Ss)) 0 ≡ true = rw r.place e in
-            simp (e, t) (
+            let v : left_set st ns ps (length (S ∷ Ss)) k ≡ left_set st ns ps (length Ss) k = simp t refl in
+            subst (λ (x : Store). HoldsUp x (set_key j k (S ∷ Ss))) (sym v) (simp e (
               holds_apart inner_words st (left_set st ns ps (length Ss) k) (numbers Ss) (upd (parent (sizes S) j) (rekey_at (offset (sizes S) j) k) S)
                   (left_set-keeps S (parent (sizes S) j) k Ss r.par s.2 hs.1 p.2)
                   (λ q. rw (upd-nums (parent (sizes S) j) (rekey_at (offset (sizes S) j) k) S) (omega (arith, a q)))
                   (holds_same inner_words st S (parent (sizes S) j) (rekey_at (offset (sizes S) j) k) (rw z (inner_first k (items_at S (parent (sizes S) j)))) hs.0),
               left_set_holds S (parent (sizes S) j) k Ss r.par s.2 (λ q. omega (arith, a q)) hs.1 p.2,
-            )
+            ))
         | isnt e ↦
             let t : eqb (ps (length Ss)) 0 ≡ false = rw r.place e in
             let w : set (st (ns (length Ss))) (ps (length Ss)) k ≡ inner_words (rekey_at (offset (sizes S) j) k (items_at S (parent (sizes S) j))) =
             rw (r.words, r.place) (inner_set' (offset (sizes S) j) k (items_at S (parent (sizes S) j)) (eqb-false _ _ e) r.off r.few) in
-            simp (e, t) (
+            let v : left_set st ns ps (length (S ∷ Ss)) k ≡ put st (ns (length Ss)) (set (st (ns (length Ss))) (ps (length Ss)) k) = simp t refl in
+            subst (λ (x : Store). HoldsUp x (set_key j k (S ∷ Ss))) (sym v) (simp e (
               rw nn (holds_upd inner_words st S (parent (sizes S) j) (rekey_at (offset (sizes S) j) k) _ r.par (λ q. omega (arith, a q)) (rw nn at w) hs.0),
               up_apart st (put st (ns (length Ss)) (set (st (ns (length Ss))) (ps (length Ss)) k)) (nums S) Ss
                   (put_keeps st (ns (length Ss)) _ (nums S) (rw nn (num_at-counts S (parent (sizes S) j) r.par))) a hs.1,
-            )
+            ))
       ]
 
   -- the right neighbour is the next of the row, with its key

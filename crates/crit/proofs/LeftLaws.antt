@@ -14,7 +14,7 @@ use Rattle.crit.specs.States.{stored, right_set, left_set, crit_key, hand_key}
 use Rattle.crit.specs.Asks.{Mem, moved, Spelt, Route, Leaves, Crits, crit_of}
 use Rattle.crit.specs.declared.Crit.{Crit}
 use Rattle.crit.specs.declared.Crit.TheVariants.{Key, Nothing}
-use Rattle.crit.proofs.SpeltLaws.{spelt-store}
+use Rattle.crit.proofs.SpeltLaws.{spelt_store}
 use Rattle.crit.proofs.WayLaws.{way_at, way_block}
 
 module _ {ws : List ℕ} {t : ℕ} {c : Cursor} {level : ℕ} (y : Route ws t c level) (l : ℕ) (e : suc l ≡ level) where
@@ -53,7 +53,7 @@ module _ {ws : List ℕ} {t : ℕ} {c : Cursor} {level : ℕ} (y : Route ws t c 
         let f = first_no m sp (λ z. h (a ∙ z)) in
         let n : get_or c.nodes l 0 ≡ m.s.ns l = sp.nodes l d in
         let v2 : vs ≡ with_block ws t (m.s.ns l) (set (m.s.st (m.s.ns l)) (m.s.ps l) k) = v ∙ rw (n, b, a2) in
-        let sp2 = spelt-store sp (m.s.ns l) i.some i.few (set (m.s.st (m.s.ns l)) (m.s.ps l) k) (length-set (m.s.st (m.s.ns l)) (m.s.ps l) k ∙ sp.sixteen (m.s.ns l)) in
+        let sp2 = spelt_store sp (m.s.ns l) i.some i.few (set (m.s.st (m.s.ns l)) (m.s.ps l) k) (length-set (m.s.st (m.s.ns l)) (m.s.ps l) k ∙ sp.sixteen (m.s.ns l)) in
         subst (λ (z : ℕ). Spelt vs t c (moved m (stored m.s (left_set m.s.st m.s.ns m.s.ps z k)))) e (rw v2 (simp f sp2));
   }
 

@@ -3,7 +3,7 @@ use mathlib.Core.Path.{◌≡◌, refl, sym, ap, ◌∙◌, subst}
 use mathlib.Core.List.{List, [], ◌∷◌}
 use mathlib.Core.Bool.{false}
 use mathlib.Core.Option.{none, some}
-use Prim.Native.Nat.{ℕ, zero, suc, ◌+◌, ◌-◌, ◌≤◌, ◌<◌}
+use Prim.Native.Nat.{ℕ, zero, suc, ◌+◌, ◌≤◌, ◌<◌}
 use native.Mathlib.Omega.{arith}
 use lib.ListN.{length, get_or, set, length-set}
 use lib.Seq.{get_or-set_same, get_or-set_other}
@@ -23,7 +23,7 @@ use Rattle.crit.specs.declared.Near.TheVariants.{Right, Nothing}
 use Rattle.crit.proofs.HealStack
 use Rattle.crit.proofs.HealPath
 use Rattle.crit.proofs.HealNext
-use Rattle.crit.proofs.SpeltLaws.{spelt-block, spelt-placed, same_count}
+use Rattle.crit.proofs.SpeltLaws.{spelt_block, spelt_placed, same_count}
 use Rattle.crit.proofs.WayLaws.{way_block, named_row, named_rest}
 use Rattle.crit.proofs.RightLaws.{more_yes, more_no}
 use Rattle.forest.proofs.RowLaws.{parent_there}
@@ -150,7 +150,7 @@ module _ {ws : List ℕ} {t : ℕ} {c : Cursor} {level : ℕ} (g : RightRoute ws
           (omega arith, omega arith)
 
   pub path_placed : (w : List ℕ) (p : ℕ) (d : Cursor) → w ≡ block ws t (get_or c.nodes l 0) → p ≡ get_or c.places l 0 → get_or w 0 0 ≤ p + 16 → Leaves (next_path l) ws ws t c d → Placed ws t (get_or d.nodes l 0)
-  path_placed w p d q a h f = let i = next_inside d (none_right w p q a h) f in spelt-placed g.way.spelt (get_or d.nodes l 0) i.0 i.1
+  path_placed w p d q a h f = let i = next_inside d (none_right w p q a h) f in spelt_placed g.way.spelt (get_or d.nodes l 0) i.0 i.1
 
   pub path_up_lem : (w : List ℕ) (p : ℕ) (v : List ℕ) (d r : Cursor) → w ≡ block ws t (get_or c.nodes l 0) → p ≡ get_or c.places l 0 → get_or w 0 0 ≤ p + 16 → Leaves (next_path l) ws ws t c d → v ≡ block ws t (get_or d.nodes l 0) →
       r.nodes ≡ set d.nodes level (get_or v 8 0) → r.places ≡ set d.places l 0 → r.tree ≡ d.tree → r.size ≡ d.size → Leaves (next_path level) ws ws t c r
@@ -161,7 +161,7 @@ module _ {ws : List ℕ} {t : ℕ} {c : Cursor} {level : ℕ} (g : RightRoute ws
         let o = f.run m sp in
         let i = next_inside d (none_right w p q a h) f in
         let cn : g.way.mem.count ≡ m.count = same_count g.way.spelt sp in
-        let vb : v ≡ m.s.st ((next_at m.s.st m.s.ns m.s.ps l).0 l) = b ∙ spelt-block sp (get_or d.nodes l 0) i.0 (omega arith) ∙ ap m.s.st (o.nodes l k) in
+        let vb : v ≡ m.s.st ((next_at m.s.st m.s.ns m.s.ps l).0 l) = b ∙ spelt_block sp (get_or d.nodes l 0) i.0 (omega arith) ∙ ap m.s.st (o.nodes l k) in
         let n2 : r.nodes ≡ set d.nodes (suc l) (get_or (m.s.st ((next_at m.s.st m.s.ns m.s.ps l).0 l)) 8 0) = ns ∙ rw (vb, ← e) in
         subst (λ (z : ℕ). Spelt ws t r (moved m (next_path z m.s))) e (
         spelt_path o (next_path (suc l) m.s) refl refl refl

@@ -13,7 +13,7 @@ use Rattle.crit.specs.States.{stored, more, right_sibling, right_set}
 use Rattle.crit.specs.Asks.{Mem, moved, Spelt, Route, Leaves, Finds, near_of}
 use Rattle.crit.specs.declared.Near.{Near}
 use Rattle.crit.specs.declared.Near.TheVariants.{Right, Nothing}
-use Rattle.crit.proofs.SpeltLaws.{spelt-block, spelt-placed, spelt-store, same_count}
+use Rattle.crit.proofs.SpeltLaws.{spelt_block, spelt_placed, spelt_store, same_count}
 use Rattle.crit.proofs.WayLaws.{way_at, way_block, way_right}
 
 module _ {ws : List ℕ} {t : ℕ} {c : Cursor} {level : ℕ} (y : Route ws t c level) (l : ℕ) (e : suc l ≡ level) where
@@ -51,7 +51,7 @@ module _ {ws : List ℕ} {t : ℕ} {c : Cursor} {level : ℕ} (y : Route ws t c 
     run = λ m sp.
         let r = way_right y l e (k, n) (sym (f.run y.mem y.spelt) ∙ ap near_of x) in
         let cn : y.mem.count ≡ m.count = same_count y.spelt sp in
-        let b : v ≡ m.s.st n = g ∙ spelt-block sp n r.0 (omega arith) in
+        let b : v ≡ m.s.st n = g ∙ spelt_block sp n r.0 (omega arith) in
         let mo = more_no m sp (rw (q, a) at h) in
         let rs : right_sibling m.s.st m.s.ns m.s.ps l ≡ some (k, n) = sym (f.run m sp) ∙ ap near_of x in
         subst (λ (z : ℕ). some (k, get_or v 8 0) ≡ right_sibling m.s.st m.s.ns m.s.ps z) e (simp (mo, rs) (rw b));
@@ -69,7 +69,7 @@ module _ {ws : List ℕ} {t : ℕ} {c : Cursor} {level : ℕ} (y : Route ws t c 
   pub right_placed : (near : Near) (k n : ℕ) → Finds ws t c l near → near ≡ Right k n → Placed ws t n
   right_placed near k n f x =
       let r = way_right y l e (k, n) (sym (f.run y.mem y.spelt) ∙ ap near_of x) in
-      spelt-placed y.spelt n r.0 r.1
+      spelt_placed y.spelt n r.0 r.1
 
   -- update_right_crit_key
   pub key_here : (w vs : List ℕ) (p k : ℕ) → w ≡ block ws t (get_or c.nodes l 0) → p ≡ get_or c.places l 0 → p + 16 < get_or w 0 0 → vs ≡ with_block ws t (get_or c.nodes l 0) (set w (1 + p) k) →
@@ -83,7 +83,7 @@ module _ {ws : List ℕ} {t : ℕ} {c : Cursor} {level : ℕ} (y : Route ws t c 
         let mo = more_yes m sp (rw (q, a) at h) in
         let n : get_or c.nodes l 0 ≡ m.s.ns l = sp.nodes l d in
         let v2 : vs ≡ with_block ws t (m.s.ns l) (set (m.s.st (m.s.ns l)) (suc (m.s.ps l)) k) = v ∙ rw (n, b, a2) in
-        let sp2 = spelt-store sp (m.s.ns l) i.some i.few (set (m.s.st (m.s.ns l)) (suc (m.s.ps l)) k) (length-set (m.s.st (m.s.ns l)) (suc (m.s.ps l)) k ∙ sp.sixteen (m.s.ns l)) in
+        let sp2 = spelt_store sp (m.s.ns l) i.some i.few (set (m.s.st (m.s.ns l)) (suc (m.s.ps l)) k) (length-set (m.s.st (m.s.ns l)) (suc (m.s.ps l)) k ∙ sp.sixteen (m.s.ns l)) in
         subst (λ (z : ℕ). Spelt vs t c (moved m (stored m.s (right_set m.s.st m.s.ns m.s.ps z k)))) e (rw v2 (simp mo sp2));
   }
 

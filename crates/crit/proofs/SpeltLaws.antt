@@ -1,12 +1,11 @@
 -- PROOFS. Words that spell a state: reading, storing and freeing a node are steps of the state
 use mathlib.Core.Path.{◌≡◌, refl, sym, ap, ◌∙◌}
 use mathlib.Core.List.{List}
-use Prim.Native.Nat.{ℕ, ◌+◌, ◌-◌, ◌≤◌, ◌<◌}
+use Prim.Native.Nat.{ℕ, ◌+◌, ◌≤◌, ◌<◌}
 use lib.ListN.{length, get_or}
-use Rattle.forest.specs.Lists.{count}
 use Rattle.forest.specs.declared.Cursor.{Cursor}
 use Rattle.pool.specs.Stores.{put, Sixteen, spell, block, with_block, Placed}
-use Rattle.pool.proofs.Bridges.{spell_nodes, spell-block, spell-with_block, spell-placed}
+use Rattle.pool.proofs.Bridges.{spell_nodes, spell-block, spell-with_block, spell_placed}
 use Rattle.crit.specs.States.{State, stored}
 use Rattle.crit.specs.Asks.{Mem, moved, Spelt}
 pub use Rattle.pool.proofs.Held.{put_sixteen}
@@ -31,14 +30,14 @@ module _ {ws : List ℕ} {t : ℕ} {c : Cursor} {m : Mem} (sp : Spelt ws t c m) 
   }
 
   module _ (n : ℕ) (lo : 1 ≤ n) (hi : n ≤ m.count) where
-    pub spelt-block : block ws t n ≡ m.s.st n
-    spelt-block = rw (sp.words, sp.trees) (spell-block m.roots m.count m.s.st m.s.free sp.sixteen n lo hi)
+    pub spelt_block : block ws t n ≡ m.s.st n
+    spelt_block = rw (sp.words, sp.trees) (spell-block m.roots m.count m.s.st m.s.free sp.sixteen n lo hi)
 
-    pub spelt-placed : Placed ws t n
-    spelt-placed = rw (sp.words, sp.trees) (spell-placed m.roots m.count m.s.st m.s.free sp.sixteen n lo hi)
+    pub spelt_placed : Placed ws t n
+    spelt_placed = rw (sp.words, sp.trees) (spell_placed m.roots m.count m.s.st m.s.free sp.sixteen n lo hi)
 
-    pub spelt-store : (w : List ℕ) → length w ≡ 16 → Spelt (with_block ws t n w) t c (moved m (stored m.s (put m.s.st n w)))
-    spelt-store w h =
+    pub spelt_store : (w : List ℕ) → length w ≡ 16 → Spelt (with_block ws t n w) t c (moved m (stored m.s (put m.s.st n w)))
+    spelt_store w h =
         spelt_as (stored m.s (put m.s.st n w))
         (ap (λ (v : List ℕ). with_block v t n w) sp.words ∙ ap (λ (x : ℕ). with_block (spell m.roots m.count m.s.st m.s.free) x n w) sp.trees ∙
         spell-with_block m.roots m.count m.s.st m.s.free sp.sixteen n lo hi w h)
@@ -46,7 +45,7 @@ module _ {ws : List ℕ} {t : ℕ} {c : Cursor} {m : Mem} (sp : Spelt ws t c m) 
 
   -- the node at a level of the path
   pub spelt_level : (l : ℕ) → l < 16 → 1 ≤ get_or c.nodes l 0 → get_or c.nodes l 0 ≤ m.count → block ws t (get_or c.nodes l 0) ≡ m.s.st (m.s.ns l)
-  spelt_level l d lo hi = spelt-block (get_or c.nodes l 0) lo hi ∙ ap m.s.st (sp.nodes l d)
+  spelt_level l d lo hi = spelt_block (get_or c.nodes l 0) lo hi ∙ ap m.s.st (sp.nodes l d)
 
 pub same_count : {ws : List ℕ} {t : ℕ} {c d : Cursor} {m m' : Mem} → Spelt ws t c m → Spelt ws t d m' → m.count ≡ m'.count
 same_count a b = sym (spelt_count a) ∙ spelt_count b

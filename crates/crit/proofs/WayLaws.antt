@@ -2,7 +2,7 @@
 use mathlib.Core.Path.{◌≡◌, sym, ap, ◌∙◌}
 use mathlib.Core.List.{List, [], ◌∷◌}
 use mathlib.Core.Option.{some}
-use Prim.Native.Nat.{ℕ, suc, ◌-◌, ◌≤◌, ◌<◌}
+use Prim.Native.Nat.{ℕ, suc, ◌≤◌, ◌<◌}
 use native.Mathlib.Omega.{arith}
 use lib.ListN.{length, get_or}
 use lib.Dec.{ltb, eqb}
@@ -22,7 +22,7 @@ use Rattle.crit.proofs.HealStack
 use Rattle.crit.proofs.HealMem
 use Rattle.crit.proofs.HealRows
 use Rattle.crit.proofs.HealPath
-use Rattle.crit.proofs.SpeltLaws.{spelt-block, spelt-placed, same_count}
+use Rattle.crit.proofs.SpeltLaws.{spelt_block, spelt_placed, same_count}
 use Rattle.forest.proofs.WordLaws.{count-append}
 use Rattle.forest.proofs.RowLaws.{parent_there}
 
@@ -93,7 +93,7 @@ module _ {ws : List ℕ} {t : ℕ} {c : Cursor} {level : ℕ} (y : Route ws t c 
       let p : y.mem.s.ps l ≡ m.s.ps l = sym (y.spelt.places l d) ∙ sp.places l d in
       let k = same_count y.spelt sp in
       let b : y.mem.s.st (m.s.ns l) ≡ m.s.st (m.s.ns l) =
-      sym (spelt-block y.spelt (m.s.ns l) (rw n at i.some) (rw n at i.few)) ∙ spelt-block sp (m.s.ns l) (rw n at i.some) (rw (n, k) at i.few) in
+      sym (spelt_block y.spelt (m.s.ns l) (rw n at i.some) (rw n at i.few)) ∙ spelt_block sp (m.s.ns l) (rw n at i.some) (rw (n, k) at i.few) in
       record {
         some = rw n at i.some;
         few = rw (n, k) at i.few;
@@ -110,13 +110,13 @@ module _ {ws : List ℕ} {t : ℕ} {c : Cursor} {level : ℕ} (y : Route ws t c 
       rw (y.spelt.nodes l d, y.spelt.places l d) (way_at y.mem y.spelt l h)
 
   pub way_placed : (l : ℕ) → l < level → Placed ws t (get_or c.nodes l 0)
-  way_placed l h = let i = way_here l h in spelt-placed y.spelt (get_or c.nodes l 0) i.some i.few
+  way_placed l h = let i = way_here l h in spelt_placed y.spelt (get_or c.nodes l 0) i.some i.few
 
   pub way_block : (m : Mem) → Spelt ws t c m → (l : ℕ) → l < level → block ws t (get_or c.nodes l 0) ≡ m.s.st (m.s.ns l)
   way_block m sp l h =
       let d : l < 16 = omega (arith, y.deep) in
       let i = way_at m sp l h in
-      rw (sp.nodes l d) (spelt-block sp (m.s.ns l) i.some i.few)
+      rw (sp.nodes l d) (spelt_block sp (m.s.ns l) i.some i.few)
 
   pub way_few : (l : ℕ) → l < level → get_or (block ws t (get_or c.nodes l 0)) 0 0 ≤ 23
   way_few l h =

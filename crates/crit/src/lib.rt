@@ -1,4 +1,6 @@
 // The keys above a node and its right sibling, as the crate's path.rs has them: what healing reads and changes along the path.
+#![tactic(auto)]
+
 ghost use Rattle.std.specs.Prelude.{◌<◌};
 ghost use Rattle.crit.specs.States.{stored, right_set, left_set, hand_key, next_path, next_node};
 ghost use Rattle.crit.specs.Asks.{Route, RightRoute, Leaves, Finds, Crits, Passes};
@@ -6,14 +8,14 @@ ghost use Rattle.crit.specs.Asks.{Route, RightRoute, Leaves, Finds, Crits, Passe
 use forest::Cursor;
 
 // What may stand to the right of a node: the key before it, and its number.
-#[derive(Drop)]
+#[derive(Clone, Copy)]
 pub enum Near {
     Right(u32, u32),
     Nothing,
 }
 
 // The key before a node, which the leftmost of a level has not.
-#[derive(Drop)]
+#[derive(Clone, Copy)]
 enum Crit {
     Key(u32),
     Nothing,

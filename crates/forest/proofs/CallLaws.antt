@@ -4,7 +4,7 @@ use mathlib.Core.List.{List, [], ◌∷◌}
 use mathlib.Core.Bool.{true, false, true≢false}
 use mathlib.Core.Logic.{◌≢◌}
 use mathlib.Core.Option.{Option, none, some}
-use Prim.Native.Nat.{ℕ, zero, suc, ◌+◌, ◌-◌, ◌≤◌, ◌<◌}
+use Prim.Native.Nat.{ℕ, zero, suc, ◌+◌, ◌≤◌, ◌<◌}
 use native.Mathlib.Omega.{arith}
 use lib.ListN.{length, drop, get_or, set, length-drop}
 use lib.Seq.{set-get_or}
@@ -23,7 +23,7 @@ use Rattle.forest.proofs.ListLaws.{is, isnt, test, total-length}
 use Rattle.forest.proofs.Reasons.{passes, stops, verdict, number}
 use Rattle.forest.proofs.PairLaws.{lookup-has}
 use Rattle.forest.proofs.TreeLaws.{lands}
-use Rattle.forest.proofs.PoolLaws.{Free, free_call, call_free, call-done, call-refused, refused_two, refused_four, good_at, used-set, total_push, weight_after, other_trees, same_trees, own_tree, call-formed}
+use Rattle.forest.proofs.PoolLaws.{Free, free_call, call_free, call-done, call-refused, refused_two, refused_four, good_at, used-set, total_push, weight_after, other_trees, same_trees, own_tree, call_formed}
 use Rattle.forest.proofs.WordLaws.{count-append, count_tree, used-once, other_words, root_word}
 
 -- what is found, or not, is no refusal
@@ -204,7 +204,7 @@ module _ (m : ℕ) (lo : 1 ≤ m) (hi : m ≤ 4) where
   other_nodes c p s n h d k = elim (verdict (refused c p)) [
     | passes r ↦
         let q = (call c p).pool in
-        let g : WellFormed m q = call-formed m lo hi c p h in
+        let g : WellFormed m q = call_formed m lo hi c p h in
         let a = two_trees n p.trees s (target c) d in
         let b = two_trees n q.trees s (target c) d in
         let o : count n (numbers (tree_of q s)) ≡ count n (numbers (tree_of p s)) = ap (λ (x : Tree). count n (numbers x)) (other_trees c p s d) in

@@ -24,7 +24,7 @@ use Rattle.forest.proofs.PairLaws.{place_le}
 use Rattle.forest.proofs.RowLaws.{length-items, parent_there}
 use Rattle.forest.proofs.TowerLaws.{tower_some}
 use Rattle.forest.proofs.TreeLaws.{NoneEmpty, none_at, lands}
-use Rattle.forest.proofs.PoolLaws.{good_at, call-formed}
+use Rattle.forest.proofs.PoolLaws.{good_at, call_formed}
 use Rattle.forest.proofs.CursorLaws.{next-at, settle-at, settle_pair}
 use Rattle.forest.proofs.StandLaws.{stands-fits}
 
@@ -118,7 +118,7 @@ blocked-stands v c p e r = elim (test (leb (length p.trees) c.tree)) [
 module _ (m : ℕ) (lo : 1 ≤ m) (hi : m ≤ 4) where
   removed_formed : (t : ℕ) (o : Option Item) (p : Pool) → WellFormed m p → WellFormed m (removed t o p)
   removed_formed t none p h = h
-  removed_formed t (some x) p h = call-formed m lo hi (remove t x.0) p h
+  removed_formed t (some x) p h = call_formed m lo hi (remove t x.0) p h
 
   pub left_formed : (v : Move) (t : ℕ) (s : Spot) (p : Pool) → WellFormed m p → WellFormed m (left_pool v t s p)
   left_formed to_first t s p h = h

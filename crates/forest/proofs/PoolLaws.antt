@@ -3,13 +3,13 @@ use mathlib.Core.Path.{◌≡◌, refl, sym, ap, ◌∙◌}
 use mathlib.Core.List.{List, [], ◌∷◌}
 use mathlib.Core.Logic.{◌≢◌}
 use mathlib.Core.Option.{Option, none, some}
-use Prim.Native.Nat.{ℕ, zero, suc, ◌+◌, ◌-◌, ◌≤◌, ◌<◌}
+use Prim.Native.Nat.{ℕ, zero, suc, ◌+◌, ◌≤◌, ◌<◌}
 use native.Mathlib.Omega.{arith}
 use lib.ListN.{length, drop, get_or, set, length-set, length-append}
 use lib.Seq.{get_or-set_same, get_or-set_other, set-get_or}
 use lib.Dec.{ltb, eqb, leb}
 use borrow.Author.Tests.{lt-ltb, le-ltb, ltb-false, le-leb, lt-leb, leb-false}
-use Rattle.forest.specs.Lists.{once, total, count}
+use Rattle.forest.specs.Lists.{once, total}
 use Rattle.forest.specs.Pairs.{lookup, has}
 use Rattle.forest.specs.Rows.{Tree, Good}
 use Rattle.forest.specs.Trees.{pairs, numbers, leaf_items, put_tree, need, get_tree}
@@ -52,14 +52,14 @@ total_push w (x ∷ xs) s = omega (arith, total_push w xs (x ∷ s))
 -- what a call does to its tree
 module _ (m : ℕ) (lo : 1 ≤ m) where
   pub good_after : m ≤ 4 → (c : Call) (new : List ℕ) (x : Tree) → Good m 7 x → Good m 7 (after c new x)
-  good_after hi (put t k v) new x g = TreeLaws.good-put m 7 k lo (omega arith) (omega arith) v new x g
-  good_after hi (remove t k) new x g = TreeLaws.good-remove m 7 k lo (omega arith) (omega arith) x g
+  good_after hi (put t k v) new x g = TreeLaws.good_put m 7 k lo (omega arith) (omega arith) v new x g
+  good_after hi (remove t k) new x g = TreeLaws.good_remove m 7 k lo (omega arith) (omega arith) x g
   good_after hi (get t k) new x g = g
 
   pub weight_after : (w : ℕ → ℕ) (c : Call) (new : List ℕ) (x : Tree) → Good m 7 x → takes c x ≤ length new →
       weight w (after c new x) + total w (frees c x) + total w (drop (takes c x) new) ≡ weight w x + total w new
-  weight_after w (put t k v) new x g h = omega (arith, TreeLaws.weight-put m 7 k lo w v new x g h)
-  weight_after w (remove t k) new x g h = omega (arith, TreeLaws.weight-remove m 7 k lo w x g)
+  weight_after w (put t k v) new x g h = omega (arith, TreeLaws.weight_put m 7 k lo w v new x g h)
+  weight_after w (remove t k) new x g h = omega (arith, TreeLaws.weight_remove m 7 k lo w x g)
   weight_after w (get t k) new x g h = omega arith
 
   pub pairs-after : (c : Call) (new : List ℕ) (x : Tree) → Good m 7 x → pairs (after c new x) ≡ acts c (pairs x)
@@ -149,9 +149,9 @@ module _ (m : ℕ) (lo : 1 ≤ m) where
       )
 
   module _ (hi : m ≤ 4) where
-    pub done-formed : (c : Call) (p : Pool) → WellFormed m p → Free c p → WellFormed m (done c p)
+    pub done_formed : (c : Call) (p : Pool) → WellFormed m p → Free c p → WellFormed m (done c p)
     unfolding done
-    done-formed c p h f = record {
+    done_formed c p h f = record {
       some_trees = rw length-set h.some_trees;
       few_trees = rw length-set h.few_trees;
       few_nodes = h.few_nodes;
@@ -160,9 +160,9 @@ module _ (m : ℕ) (lo : 1 ≤ m) where
     }
 
     -- a call keeps the pool well formed
-    pub call-formed : (c : Call) (p : Pool) → WellFormed m p → WellFormed m (call c p).pool
-    call-formed c p h = elim (verdict (refused c p)) [
-      | passes e ↦ rw (call-done c p e) (done-formed c p h (free_call c p e))
+    pub call_formed : (c : Call) (p : Pool) → WellFormed m p → WellFormed m (call c p).pool
+    call_formed c p h = elim (verdict (refused c p)) [
+      | passes e ↦ rw (call-done c p e) (done_formed c p h (free_call c p e))
       | stops x e ↦ rw (call-refused c p x e) h
     ]
 
@@ -199,6 +199,6 @@ module _ (m : ℕ) (lo : 1 ≤ m) where
   put_twice hi t k v p h e =
       let q = (call (put t k v) p).pool in
       let f = free_call (put t k v) p e in
-      let g : WellFormed m q = call-formed hi (put t k v) p h in
+      let g : WellFormed m q = call_formed hi (put t k v) p h in
       put-held t k v q g (rw (same_trees (put t k v) p) f.there)
       (TreeLaws.pairs_get m 7 k lo (tree_of q t) (good_at m q.trees t g.good) ∙ ap (lookup k) (call-pairs (put t k v) p h e) ∙ lookup-insert k v (pairs (tree_of p t)))

@@ -11,7 +11,7 @@ use Rattle.forest.specs.declared.Cursor.{Cursor}
 use Rattle.forest.specs.Pools.{Pool, Sound, encode, Call, call}
 use Rattle.forest.specs.Cursors.{Move, move}
 use Rattle.forest.specs.Promises.{Calls, Moves}
-use Rattle.forest.proofs.PoolLaws.{call-formed}
+use Rattle.forest.proofs.PoolLaws.{call_formed}
 use Rattle.forest.proofs.CursorCalls.{move_formed}
 use Rattle.forest.proofs.CountLaws.{encode-length}
 use Rattle.forest.proofs.WordLaws.{first_word, count_word}
@@ -22,7 +22,7 @@ module _ (m : ℕ) (lo : 1 ≤ m) where
   pub calls_sound : m ≤ 4 → (c : Call) (before after : List ℕ) (r : Reply) → Calls m c before after r → Sound m before → Sound m after
   calls_sound hi c before after r k s = record {
     pool = (call c s.pool).pool;
-    formed = call-formed m lo hi c s.pool s.formed;
+    formed = call_formed m lo hi c s.pool s.formed;
     same = k.sound_words s.pool s.formed s.same;
   }
 

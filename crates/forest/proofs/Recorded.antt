@@ -78,8 +78,8 @@ unfolding steps share_then_a_small_right_most_leaf
 share_then_a_small_right_most_leaf_agrees = refl
 
 -- leaf split, entry goes right; new root; leaf merge, one parent; shrunken root; front key's separator one level up; small right-most leaf stays; emptied tree
-pub merge_shrunken_root-emptied_tree : Trial
-merge_shrunken_root-emptied_tree = record {
+pub merge_shrunken_root_emptied_tree : Trial
+merge_shrunken_root_emptied_tree = record {
   seen = play 1 3 (
       ask (put 0 10 1010) ∷ ask (put 0 20 1020) ∷ ask (put 0 30 1030) ∷ ask (put 0 40 1040) ∷ ask (put 0 50 1050) ∷ ask (put 0 60 1060) ∷ ask (put 0 70 1070) ∷ ask (put 0 80 1080) ∷
       go 0 (to_key 50) ∷ go 0 to_remove ∷ go 0 (to_key 10) ∷ go 0 to_remove ∷ go 0 to_remove ∷ go 0 to_remove ∷ go 0 to_remove ∷ go 0 to_remove ∷ go 0 to_remove ∷ go 0 to_remove ∷
@@ -92,9 +92,9 @@ merge_shrunken_root-emptied_tree = record {
       0 ∷ 0 ∷ 0 ∷ 0 ∷ 0 ∷ 0 ∷ 0 ∷ 0 ∷ 0 ∷ 0 ∷ 0 ∷ 0 ∷ 0 ∷ 0 ∷ 0 ∷ 0 ∷ 0 ∷ 2 ∷ 1 ∷ 3 ∷ 0 ∷ []) ∷ [];
 }
 
-merge_shrunken_root-emptied_tree_agrees : agree merge_shrunken_root-emptied_tree ≡ true
-unfolding steps merge_shrunken_root-emptied_tree
-merge_shrunken_root-emptied_tree_agrees = refl
+merge_shrunken_root_emptied_tree_agrees : agree merge_shrunken_root_emptied_tree ≡ true
+unfolding steps merge_shrunken_root_emptied_tree
+merge_shrunken_root_emptied_tree_agrees = refl
 
 -- leaf split, entry goes left; inner split, child goes left; new root; small right-most leaf stays
 pub inner_split_child_goes_left : Trial
@@ -163,8 +163,8 @@ unfolding steps merge_across_parents_parent_merge
 merge_across_parents_parent_merge_agrees = refl
 
 -- leaf split, entry goes right; inner split, child goes right; new root; leaf merge, across parents; parent's share; front key's separator one level up
-pub parent-share : Trial
-parent-share = record {
+pub parent_share : Trial
+parent_share = record {
   seen = play 1 13 (
       ask (put 0 1 1001) ∷ ask (put 0 2 1002) ∷ ask (put 0 3 1003) ∷ ask (put 0 4 1004) ∷ ask (put 0 5 1005) ∷ ask (put 0 6 1006) ∷ ask (put 0 7 1007) ∷ ask (put 0 8 1008) ∷ ask (put 0 9 1009) ∷
       ask (put 0 10 1010) ∷ ask (put 0 11 1011) ∷ ask (put 0 12 1012) ∷ ask (put 0 13 1013) ∷ ask (put 0 14 1014) ∷ ask (put 0 15 1015) ∷ ask (put 0 16 1016) ∷ ask (put 0 17 1017) ∷
@@ -195,9 +195,9 @@ parent-share = record {
       1 ∷ 5 ∷ 0 ∷ 0 ∷ 0 ∷ 0 ∷ 0 ∷ 0 ∷ 0 ∷ 0 ∷ 0 ∷ 0 ∷ 0 ∷ 0 ∷ []) ∷ [];
 }
 
-parent-share_agrees : agree parent-share ≡ true
-unfolding steps parent-share
-parent-share_agrees = refl
+parent_share_agrees : agree parent_share ≡ true
+unfolding steps parent_share
+parent_share_agrees = refl
 
 -- leaf split, entry goes right; inner split, child goes right; new root; leaf merge, one parent; front key's separator two levels up
 pub separator_two_levels_up : Trial
@@ -343,8 +343,8 @@ unfolding steps share_across_parents
 share_across_parents_agrees = refl
 
 -- leaf split, entry goes right; new root; leaf share, one parent; leaf merge, one parent; shrunken root
-pub two_trees-take_and_give_by_turns : Trial
-two_trees-take_and_give_by_turns = record {
+pub two_trees_take_and_give_by_turns : Trial
+two_trees_take_and_give_by_turns = record {
   seen = play 2 6 (
       ask (put 0 10 1010) ∷ ask (put 0 20 1020) ∷ ask (put 0 30 1030) ∷ ask (put 0 40 1040) ∷ ask (put 1 1 1001) ∷ ask (put 1 2 1002) ∷ ask (put 1 3 1003) ∷ ask (put 1 4 1004) ∷
       ask (put 1 5 1005) ∷ ask (put 1 6 1006) ∷ ask (put 1 7 1007) ∷ ask (put 0 50 1050) ∷ ask (put 0 60 1060) ∷ ask (put 0 70 1070) ∷ ask (put 0 80 1080) ∷ go 0 (to_key 10) ∷ go 0 to_remove ∷
@@ -359,13 +359,13 @@ two_trees-take_and_give_by_turns = record {
       0 ∷ 0 ∷ 0 ∷ 0 ∷ 2 ∷ 6 ∷ 5 ∷ 0 ∷ 0 ∷ 0 ∷ 0 ∷ []) ∷ [];
 }
 
-two_trees-take_and_give_by_turns_agrees : agree two_trees-take_and_give_by_turns ≡ true
-unfolding steps two_trees-take_and_give_by_turns
-two_trees-take_and_give_by_turns_agrees = refl
+two_trees_take_and_give_by_turns_agrees : agree two_trees_take_and_give_by_turns ≡ true
+unfolding steps two_trees_take_and_give_by_turns
+two_trees_take_and_give_by_turns_agrees = refl
 
 -- the claim
 abbrev pub recorded : List Trial
-recorded = leaf_splits_left_and_right ∷ first_on_the_right_and_a_walk ∷ replaced_repeated_not_found ∷ share_then_a_small_right_most_leaf ∷ merge_shrunken_root-emptied_tree ∷ inner_split_child_goes_left ∷ merge_across_parents_parent_merge ∷ parent-share ∷ separator_two_levels_up ∷ emptied_right_most_leaf_with_its_parent ∷ share_across_parents ∷ two_trees-take_and_give_by_turns ∷ []
+recorded = leaf_splits_left_and_right ∷ first_on_the_right_and_a_walk ∷ replaced_repeated_not_found ∷ share_then_a_small_right_most_leaf ∷ merge_shrunken_root_emptied_tree ∷ inner_split_child_goes_left ∷ merge_across_parents_parent_merge ∷ parent_share ∷ separator_two_levels_up ∷ emptied_right_most_leaf_with_its_parent ∷ share_across_parents ∷ two_trees_take_and_give_by_turns ∷ []
 
-pub recorded-hold : AllHold recorded
-recorded-hold = (holds leaf_splits_left_and_right leaf_splits_left_and_right_agrees, (holds first_on_the_right_and_a_walk first_on_the_right_and_a_walk_agrees, (holds replaced_repeated_not_found replaced_repeated_not_found_agrees, (holds share_then_a_small_right_most_leaf share_then_a_small_right_most_leaf_agrees, (holds merge_shrunken_root-emptied_tree merge_shrunken_root-emptied_tree_agrees, (holds inner_split_child_goes_left inner_split_child_goes_left_agrees, (holds merge_across_parents_parent_merge merge_across_parents_parent_merge_agrees, (holds parent-share parent-share_agrees, (holds separator_two_levels_up separator_two_levels_up_agrees, (holds emptied_right_most_leaf_with_its_parent emptied_right_most_leaf_with_its_parent_agrees, (holds share_across_parents share_across_parents_agrees, (holds two_trees-take_and_give_by_turns two_trees-take_and_give_by_turns_agrees, tt))))))))))))
+pub recorded_hold : AllHold recorded
+recorded_hold = (holds leaf_splits_left_and_right leaf_splits_left_and_right_agrees, (holds first_on_the_right_and_a_walk first_on_the_right_and_a_walk_agrees, (holds replaced_repeated_not_found replaced_repeated_not_found_agrees, (holds share_then_a_small_right_most_leaf share_then_a_small_right_most_leaf_agrees, (holds merge_shrunken_root_emptied_tree merge_shrunken_root_emptied_tree_agrees, (holds inner_split_child_goes_left inner_split_child_goes_left_agrees, (holds merge_across_parents_parent_merge merge_across_parents_parent_merge_agrees, (holds parent_share parent_share_agrees, (holds separator_two_levels_up separator_two_levels_up_agrees, (holds emptied_right_most_leaf_with_its_parent emptied_right_most_leaf_with_its_parent_agrees, (holds share_across_parents share_across_parents_agrees, (holds two_trees_take_and_give_by_turns two_trees_take_and_give_by_turns_agrees, tt))))))))))))

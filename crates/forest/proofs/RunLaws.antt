@@ -12,7 +12,7 @@ use Rattle.forest.specs.Answers.{held, kept}
 use Rattle.forest.specs.Pools.{Pool, used, WellFormed, tree_of, Call, put, remove, get, target, after, takes, says, refused, done, call, calls, fresh, run, shape}
 use Rattle.forest.proofs.ListLaws.{total-length}
 use Rattle.forest.proofs.Reasons.{passes, stops, verdict}
-use Rattle.forest.proofs.PoolLaws.{Free, free_call, call_free, call-done, call-refused, other_trees, same_trees, same_count, own_tree, call-formed, used-set, used-at}
+use Rattle.forest.proofs.PoolLaws.{Free, free_call, call_free, call-done, call-refused, other_trees, same_trees, same_count, own_tree, call_formed, used-set, used-at}
 use Rattle.forest.proofs.CountLaws.{nodes_all, fresh_formed}
 use Rattle.forest.proofs.CallLaws.{held_kept}
 use Rattle.forest.proofs.KindLaws.{ByShape}
@@ -65,7 +65,7 @@ struck_same c p k = elim (verdict (refused c p)) [
 -- any calls keep a pool well formed
 pub run_formed : (m : ℕ) → 1 ≤ m → m ≤ 4 → (cs : List Call) (p : Pool) → WellFormed m p → WellFormed m (run cs p)
 run_formed m lo hi [] p h = h
-run_formed m lo hi (c ∷ cs) p h = run_formed m lo hi cs (call c p).pool (call-formed m lo hi c p h)
+run_formed m lo hi (c ∷ cs) p h = run_formed m lo hi cs (call c p).pool (call_formed m lo hi c p h)
 
 module _ (m : ℕ) (lo : 1 ≤ m) (hi : m ≤ 4) where
   -- p is a pool in use, q one of the same size in which only tree t is used
@@ -127,14 +127,14 @@ module _ (m : ℕ) (lo : 1 ≤ m) (hi : m ≤ 4) where
         let f : Free c q = free_too c p q w a (not-refused c p e) in
         let z : (call c q).pool ≡ done c q = ap (λ d. d.pool) (call-done c q (call_free c q f)) in
         record {
-          joint = call-formed m lo hi c p w.joint;
-          lone = call-formed m lo hi c q w.lone;
+          joint = call_formed m lo hi c p w.joint;
+          lone = call_formed m lo hi c q w.lone;
           trees = same_trees c p ∙ w.trees ∙ sym (same_trees c q);
           nodes = same_count c p ∙ w.nodes ∙ sym (same_count c q);
           only = rw z (only_done c q f w.only);
         };
     room_other = λ c t p q w e. record {
-      joint = call-formed m lo hi c p w.joint;
+      joint = call_formed m lo hi c p w.joint;
       lone = w.lone;
       trees = same_trees c p ∙ w.trees;
       nodes = same_count c p ∙ w.nodes;

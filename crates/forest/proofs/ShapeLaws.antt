@@ -1,7 +1,7 @@
 -- PROOFS. Numbers decide nothing: put, remove and get commute with erasing them
 use mathlib.Core.Path.{◌≡◌, refl, sym, ap, ◌∙◌}
 use mathlib.Core.List.{List, [], ◌∷◌, ◌++◌, map}
-use Prim.Native.Nat.{ℕ, zero, suc, ◌+◌, ◌-◌}
+use Prim.Native.Nat.{ℕ, zero, suc, ◌+◌}
 use native.Mathlib.Omega.{arith}
 use lib.ListN.{length, drop, get_or, length-map, length-append}
 use lib.Dec.{ltb, eqb, leb}

@@ -130,14 +130,14 @@ module _ (k : ℕ) (l : List ℕ) (n : ℕ) (h : n ≤ length l) where
   -- each turn of the loop, which steps from i to i - 1
   module _ (i place : ℕ) (here : Bool) (s : Searching k l n i place here) (z : 0 < i) where
     -- the place is not one of the first n
-    pub search-skips : n ≤ i - 1 → Searching k l n (i - 1) place here
-    search-skips b =
+    pub search_skips : n ≤ i - 1 → Searching k l n (i - 1) place here
+    search_skips b =
         let q = s.past (omega arith) in
         record { few = omega (arith, s.few); past = λ c. q; asked = λ c. asked_none (i - 1) place here (omega arith) q.0 q.1 }
 
     -- a key that is not below k
-    pub search-stops : i - 1 < n → KeysRise (take n l) → k ≤ get_or l (i - 1) 0 → Searching k l n (i - 1) (i - 1) (eqb (get_or l (i - 1) 0) k)
-    search-stops b r g =
+    pub search_stops : i - 1 < n → KeysRise (take n l) → k ≤ get_or l (i - 1) 0 → Searching k l n (i - 1) (i - 1) (eqb (get_or l (i - 1) 0) k)
+    search_stops b r g =
         let u : KeysRise (get_or l (i - 1) 0 ∷ drop (suc (i - 1)) (take n l)) = rw (key_there (i - 1) b) at (rise_drop (take n l) (i - 1) r) in
         let x : eqb (get_or l (i - 1) 0) k ≡ has_key k (drop (i - 1) (take n l)) =
         elim (test (eqb (get_or l (i - 1) 0) k)) [
@@ -151,8 +151,8 @@ module _ (k : ℕ) (l : List ℕ) (n : ℕ) (h : n ≤ length l) where
         }
 
     -- a key below k
-    pub search-passes : get_or l (i - 1) 0 < k → Searching k l n (i - 1) place here
-    search-passes g = elim (test (ltb (i - 1) n)) [
+    pub search_passes : get_or l (i - 1) 0 < k → Searching k l n (i - 1) place here
+    search_passes g = elim (test (ltb (i - 1) n)) [
       | is e ↦
           let b : i - 1 < n = omega tests in
           let y : suc (i - 1) ≡ i = omega arith in
@@ -165,7 +165,7 @@ module _ (k : ℕ) (l : List ℕ) (n : ℕ) (h : n ≤ length l) where
               hit = simp (key_there (i - 1) b, ne_eqb k (get_or l (i - 1) 0) (omega arith)) a.hit;
             };
           }
-      | isnt e ↦ search-skips (omega tests)
+      | isnt e ↦ search_skips (omega tests)
     ]
 
   -- at its end
@@ -175,10 +175,10 @@ module _ (k : ℕ) (l : List ℕ) (n : ℕ) (h : n ≤ length l) where
         let a : Asked k (take n l) 0 place here = rw z at (s.asked (omega arith)) in
         (omega (arith, a.at), a.hit)
 
-    pub search-here : here ≡ true → Here place ≡ searched k (take n l)
+    pub search_here : here ≡ true → Here place ≡ searched k (take n l)
     unfolding searched
-    search-here e = let t : has_key k (take n l) ≡ true = sym told.1 ∙ e in rw (t, told.0)
+    search_here e = let t : has_key k (take n l) ≡ true = sym told.1 ∙ e in rw (t, told.0)
 
-    pub search-absent : here ≡ false → Absent place ≡ searched k (take n l)
+    pub search_absent : here ≡ false → Absent place ≡ searched k (take n l)
     unfolding searched
-    search-absent e = let t : has_key k (take n l) ≡ false = sym told.1 ∙ e in rw (t, told.0)
+    search_absent e = let t : has_key k (take n l) ≡ false = sym told.1 ∙ e in rw (t, told.0)

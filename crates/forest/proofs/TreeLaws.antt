@@ -3,7 +3,7 @@ use mathlib.Core.Path.{◌≡◌, refl, sym, ap, ◌∙◌}
 use mathlib.Core.List.{List, [], ◌∷◌, ◌++◌, append-nil}
 use mathlib.Core.Bool.{true, false, cond}
 use mathlib.Core.Option.{Option, none, some}
-use Prim.Native.Nat.{ℕ, zero, suc, ◌+◌, ◌-◌, ◌*◌, ◌≤◌, ◌<◌}
+use Prim.Native.Nat.{ℕ, zero, suc, ◌+◌, ◌*◌, ◌≤◌, ◌<◌}
 use native.Mathlib.Omega.{arith}
 use lib.ListN.{length, take, drop, get_or, set, length-map, length-drop}
 use lib.Dec.{leb}
@@ -155,10 +155,10 @@ module _ (m c k : ℕ) (lo : 1 ≤ m) where
 
   -- the tree stays well formed
   module _ (two : 2 ≤ c) (hi : 2 * m ≤ suc c) where
-    pub good-put : (v : ℕ) (new : List ℕ) (t : Tree) → Good m c t → Good m c (put_tree c k v new t)
+    pub good_put : (v : ℕ) (new : List ℕ) (t : Tree) → Good m c t → Good m c (put_tree c k v new t)
     unfolding put_tree put_leaf
-    good-put v new [] g = ((tt, tt), (omega arith, omega arith, tt), refl)
-    good-put v new (L ∷ Rs) g =
+    good_put v new [] g = ((tt, tt), (omega arith, omega arith, tt), refl)
+    good_put v new (L ∷ Rs) g =
         let s = lands m c k L Rs lo g in
         let ls = tower_levels L Rs g.2 in
         elim (test (has k (leaf_items k L))) [
@@ -205,10 +205,10 @@ module _ (m c k : ℕ) (lo : 1 ≤ m) where
               simp e (rw q (levels_stack (length L) Rs w))
         ]
 
-    pub good-remove : (t : Tree) → Good m c t → Good m c (remove_tree c k t)
+    pub good_remove : (t : Tree) → Good m c t → Good m c (remove_tree c k t)
     unfolding remove_tree
-    good-remove [] g = tt
-    good-remove (L ∷ Rs) g =
+    good_remove [] g = tt
+    good_remove (L ∷ Rs) g =
         let s = lands m c k L Rs lo g in
         elim (test (has k (leaf_items k L))) [
           | is e ↦ simp e (stand-good (drop_leaf c k L) (drop_above c k L Rs)
@@ -220,11 +220,11 @@ module _ (m c k : ℕ) (lo : 1 ≤ m) where
 
   -- the numbers: what a put takes, and what a remove frees
   module _ (w : ℕ → ℕ) where
-    pub weight-put : (v : ℕ) (new : List ℕ) (t : Tree) → Good m c t → need c k t ≤ length new →
+    pub weight_put : (v : ℕ) (new : List ℕ) (t : Tree) → Good m c t → need c k t ≤ length new →
         weight w (put_tree c k v new t) + total w (drop (need c k t) new) ≡ weight w t + total w new
     unfolding put_tree put_leaf need
-    weight-put v new [] g h = omega (arith, total_head w new h)
-    weight-put v new (L ∷ Rs) g h =
+    weight_put v new [] g h = omega (arith, total_head w new h)
+    weight_put v new (L ∷ Rs) g h =
         let s = lands m c k L Rs lo g in
         let ls = tower_levels L Rs g.2 in
         elim (test (has k (leaf_items k L))) [
@@ -270,10 +270,10 @@ module _ (m c k : ℕ) (lo : 1 ≤ m) where
     unfolding drop_above drop_leaf
     drop-kept L Rs e = simp (e, drop_row_kept c (leaf_of k L) (place k (leaf_items k L)) L (ltb-false _ _ e))
 
-    pub weight-remove : (t : Tree) → Good m c t → weight w (remove_tree c k t) + total w (freed c k t) ≡ weight w t
+    pub weight_remove : (t : Tree) → Good m c t → weight w (remove_tree c k t) + total w (freed c k t) ≡ weight w t
     unfolding remove_tree freed
-    weight-remove [] g = refl
-    weight-remove (L ∷ Rs) g =
+    weight_remove [] g = refl
+    weight_remove (L ∷ Rs) g =
         let s = lands m c k L Rs lo g in
         let ls = tower_levels L Rs g.2 in
         elim (test (has k (leaf_items k L))) [
@@ -290,7 +290,7 @@ module _ (m c k : ℕ) (lo : 1 ≤ m) where
   pub nodes_put : (v : ℕ) (new : List ℕ) (t : Tree) → Good m c t → need c k t ≤ length new → length (numbers (put_tree c k v new t)) ≡ length (numbers t) + need c k t
   nodes_put v new t g h = omega (
     arith,
-    weight-put (λ x. 1) v new t g h,
+    weight_put (λ x. 1) v new t g h,
     total-length (numbers (put_tree c k v new t)),
     total-length (numbers t),
     total-length new,
@@ -301,7 +301,7 @@ module _ (m c k : ℕ) (lo : 1 ≤ m) where
   pub nodes_remove : (t : Tree) → Good m c t → length (numbers (remove_tree c k t)) + length (freed c k t) ≡ length (numbers t)
   nodes_remove t g = omega (
     arith,
-    weight-remove (λ x. 1) t g,
+    weight_remove (λ x. 1) t g,
     total-length (numbers (remove_tree c k t)),
     total-length (numbers t),
     total-length (freed c k t),

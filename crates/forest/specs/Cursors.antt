@@ -5,7 +5,7 @@ use Rattle.std.proofs.Math.ListN.{get_elem?}
 use Rattle.forest.specs.Sizes.{most_levels}
 use Rattle.forest.specs.Lists.{sum, parent, offset, pad}
 use Rattle.forest.specs.Pairs.{Item, place}
-use Rattle.forest.specs.Rows.{Row, Tree, size, sizes, nums, items_at}
+use Rattle.forest.specs.Rows.{Row, Tree, sizes, nums, items_at}
 use Rattle.forest.specs.Trees.{leaf_of, leaf_items, get_tree}
 use Rattle.forest.specs.declared.Refusal.{Refusal}
 use Rattle.forest.specs.declared.Refusal.TheVariants.{NoPlace}

@@ -1,5 +1,5 @@
 -- DEFINITIONS. put, remove and get on one tree
-use Rattle.std.specs.Prelude.{List, [], ◌∷◌, ◌++◌, Bool, cond, ℕ, suc, ◌+◌, length, drop, get_or, ltb}
+use Rattle.std.specs.Prelude.{List, [], ◌∷◌, ◌++◌, Bool, cond, ℕ, suc, length, drop, get_or, ltb}
 use Rattle.std.proofs.Math.Option.{Option, none}
 use Rattle.forest.specs.Sizes.{inner_cap}
 use Rattle.forest.specs.Lists.{parent, offset, upto}

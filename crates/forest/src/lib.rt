@@ -1,4 +1,6 @@
 // What every crate of the port shares: the sizes of document 01, a call's answer, the cursor, and lib.rs's search and moves in a slice.
+#![tactic(auto)]
+
 ghost use Rattle.std.specs.Prelude.{◌≡◌, ◌≤◌, ◌<◌, length, take};
 ghost use Rattle.forest.specs.Sizes.{key_words};
 ghost use Rattle.forest.specs.Answers.{answer_of, number_of};
@@ -18,7 +20,7 @@ pub const MAX_NODES: u32 = 512;
 pub const LEAF_TAG: u32 = 32;
 
 // Why a call is refused.
-#[derive(Drop)]
+#[derive(Clone, Copy)]
 pub enum Refusal {
     Unsound,
     NoTree,
@@ -28,7 +30,7 @@ pub enum Refusal {
 }
 
 // What a call answers: nothing found, a value, a pair, or that it is refused.
-#[derive(Drop)]
+#[derive(Clone, Copy)]
 pub enum Reply {
     Nothing,
     Value(u32),
@@ -38,7 +40,7 @@ pub enum Reply {
 
 // An answer in document 01's numbers.
 #[repr(C)]
-#[derive(Drop)]
+#[derive(Clone, Copy)]
 pub struct Answer {
     pub number: u32,
     pub found: bool,
@@ -48,7 +50,7 @@ pub struct Answer {
 
 // A place in a tree: of each level from the root the node and the place in it; unused levels hold 0.
 #[repr(C)]
-#[derive(Drop)]
+#[derive(Clone, Copy)]
 pub struct Cursor {
     pub tree: u32,
     pub size: u32,
@@ -57,7 +59,7 @@ pub struct Cursor {
 }
 
 // What a cursor call hands back.
-#[derive(Drop)]
+#[derive(Clone, Copy)]
 pub struct Moved {
     pub reply: Reply,
     pub cursor: Cursor,
@@ -109,7 +111,7 @@ pub fn numbered(reply: Reply) -> Answer
 }
 
 // What a search finds: the key's place, or the place where it would stand.
-#[derive(Drop)]
+#[derive(Clone, Copy)]
 pub enum Found {
     Here(usize),
     Absent(usize),

@@ -3,7 +3,7 @@ use mathlib.Core.Path.{◌≡◌, sym, ap, ◌∙◌}
 use mathlib.Core.List.{List, [], ◌∷◌, map}
 use mathlib.Core.Bool.{Bool, true, false, true≢false}
 use mathlib.Core.Option.{some}
-use Prim.Native.Nat.{ℕ, zero, suc, ◌-◌, ◌≤◌, ◌<◌}
+use Prim.Native.Nat.{ℕ, zero, suc, ◌≤◌, ◌<◌}
 use native.Mathlib.Omega.{arith}
 use lib.ListN.{length, drop, get_or, set}
 use lib.Seq.{set-get_or}
@@ -72,20 +72,20 @@ module _ (p : Pools.Pool) (tree k v : ℕ) (there : tree < length p.trees) where
 module _ (p : Pools.Pool) (w : Pools.WellFormed leaf_least p) (tree k v : ℕ) (there : tree < length p.trees) where
   -- an empty tree
   module _ (is-empty : Pools.tree_of p tree ≡ []) where
-    pub empty-need : need 7 k (Pools.tree_of p tree) ≡ 1
+    pub empty_need : need 7 k (Pools.tree_of p tree) ≡ 1
     unfolding need
-    empty-need = rw is-empty
+    empty_need = rw is-empty
 
-    pub empty-held : held (get_tree k (Pools.tree_of p tree)) ≡ Nothing
+    pub empty_held : held (get_tree k (Pools.tree_of p tree)) ≡ Nothing
     unfolding get_tree
-    empty-held = rw is-empty
+    empty_held = rw is-empty
 
-    pub empty-words : 1 ≤ length p.free →
+    pub empty_words : 1 ≤ length p.free →
         spell (set (map Pools.root p.trees) tree (get_or p.free 0 0)) p.count (put (Pools.node_words p.trees) (get_or p.free 0 0) (Pools.leaf_words ((k, v) ∷ []))) (drop 1 p.free) ≡
         Pools.encode (Pools.done (Pools.put tree k v) p)
-    empty-words h =
-        let q = Pooled.put-spell leaf_least (omega arith) (omega arith) p w tree k v there (rw empty-need h) in
-        rw (empty-need, is-empty) at q
+    empty_words h =
+        let q = Pooled.put-spell leaf_least (omega arith) (omega arith) p w tree k v there (rw empty_need h) in
+        rw (empty_need, is-empty) at q
 
   -- one that is not
   module _ (L : Row) (Rs : List Row) (is-tree : Pools.tree_of p tree ≡ L ∷ Rs) where
@@ -108,29 +108,29 @@ module _ (p : Pools.Pool) (w : Pools.WellFormed leaf_least p) (tree k v : ℕ) (
       pub present_at : is_at (leaf_items k L) e k ≡ true
       present_at = hit_at k (leaf_items k L) rises h
 
-      pub present-need : need 7 k (Pools.tree_of p tree) ≡ 0
+      pub present_need : need 7 k (Pools.tree_of p tree) ≡ 0
       unfolding need
-      present-need = rw is-tree (simp h)
+      present_need = rw is-tree (simp h)
 
-      pub present-held : held (get_tree k (Pools.tree_of p tree)) ≡ Value (get_or (leaf_items k L) e (0, 0)).1
+      pub present_held : held (get_tree k (Pools.tree_of p tree)) ≡ Value (get_or (leaf_items k L) e (0, 0)).1
       unfolding get_tree
-      present-held = rw is-tree (ap held (lookup-at k (leaf_items k L) rises h))
+      present_held = rw is-tree (ap held (lookup-at k (leaf_items k L) rises h))
 
-      pub present-words : spell s.roots s.nodes (put s.store (Grows.num_at s.row s.at) (Pools.leaf_words (set (leaf_items k L) e (k, v)))) s.free ≡ Pools.encode (Pools.done (Pools.put tree k v) p)
-      present-words =
-          let q = Pooled.put-spell leaf_least (omega arith) (omega arith) p w tree k v there (rw present-need (omega arith)) in
-          let z = rw (present-need, is-tree) at q in
+      pub present_words : spell s.roots s.nodes (put s.store (Grows.num_at s.row s.at) (Pools.leaf_words (set (leaf_items k L) e (k, v)))) s.free ≡ Pools.encode (Pools.done (Pools.put tree k v) p)
+      present_words =
+          let q = Pooled.put-spell leaf_least (omega arith) (omega arith) p w tree k v there (rw present_need (omega arith)) in
+          let z = rw (present_need, is-tree) at q in
           let y = simp (h, root-held) at z in
           y
 
     -- it is absent
     module _ (h : has k (leaf_items k L) ≡ false) where
-      pub absent-at : is_at (leaf_items k L) e k ≡ false
-      absent-at = miss_at k (leaf_items k L) e h
+      pub absent_at : is_at (leaf_items k L) e k ≡ false
+      absent_at = miss_at k (leaf_items k L) e h
 
-      pub absent-held : held (get_tree k (Pools.tree_of p tree)) ≡ Nothing
+      pub absent_held : held (get_tree k (Pools.tree_of p tree)) ≡ Nothing
       unfolding get_tree
-      absent-held = rw is-tree (ap held (lookup-has k (leaf_items k L) h))
+      absent_held = rw is-tree (ap held (lookup-has k (leaf_items k L) h))
 
       -- and the leaf has room
       module _ (b : full 7 s.at s.row ≡ false) where

@@ -13,7 +13,7 @@ use Rattle.forest.specs.Trees.{numbers, need_up}
 use Rattle.forest.specs.Pools.{inner_words}
 use Rattle.forest.proofs.RowLaws.{sum-sizes, length-line, length-items, fill_at, parent_there, offset_there}
 use Rattle.pool.specs.Stores.{Store, block, Placed}
-use Rattle.pool.proofs.Bridges.{spell-placed, spell-block}
+use Rattle.pool.proofs.Bridges.{spell_placed, spell-block}
 use Rattle.grow.specs.Grows
 use Rattle.grow.proofs.Mem
 
@@ -102,27 +102,27 @@ module _ (ws : List ℕ) (t tree : ℕ) (ns ps : List ℕ) where
   seen s level h u = seen_rows s.roots s.nodes s.store s.free s.row s.rows s.at level h u
 
   module _ (s : Grows.Scene) (level : ℕ) (u : Und s level) (h : Seen s level) where
-    pub up-placed : Placed ws t (get_or ns (level - 1) 0)
-    up-placed = rw (h.node, ← u.words, ← u.trees) (spell-placed s.roots s.nodes s.store s.free u.sixteen (Grows.num_at (row_up s) (par_up s)) h.low h.high)
+    pub up_placed : Placed ws t (get_or ns (level - 1) 0)
+    up_placed = rw (h.node, ← u.words, ← u.trees) (spell_placed s.roots s.nodes s.store s.free u.sixteen (Grows.num_at (row_up s) (par_up s)) h.low h.high)
 
-    pub up-block : block ws t (get_or ns (level - 1) 0) ≡ inner_words (items_up s)
-    up-block =
+    pub up_block : block ws t (get_or ns (level - 1) 0) ≡ inner_words (items_up s)
+    up_block =
         rw (h.node, ← u.words, ← u.trees)
         (spell-block s.roots s.nodes s.store s.free u.sixteen (Grows.num_at (row_up s) (par_up s)) h.low h.high ∙ h.held)
 
     -- word 0 tells whether the node is full
     pub up_room : get_or (block ws t (get_or ns (level - 1) 0)) 0 0 < 23 → full 8 (par_up s) (row_up s) ≡ false
-    up_room b = let z = rw up-block at b in lt-leb 8 (get_or (sizes (row_up s)) (par_up s) 0) (omega (arith, length-items (row_up s) (par_up s), h.inside))
+    up_room b = let z = rw up_block at b in lt-leb 8 (get_or (sizes (row_up s)) (par_up s) 0) (omega (arith, length-items (row_up s) (par_up s), h.inside))
 
-    pub up-full : 23 ≤ get_or (block ws t (get_or ns (level - 1) 0)) 0 0 → full 8 (par_up s) (row_up s) ≡ true
-    up-full b = let z = rw up-block at b in le-leb 8 (get_or (sizes (row_up s)) (par_up s) 0) (omega (arith, length-items (row_up s) (par_up s), h.inside))
+    pub up_full : 23 ≤ get_or (block ws t (get_or ns (level - 1) 0)) 0 0 → full 8 (par_up s) (row_up s) ≡ true
+    up_full b = let z = rw up_block at b in le-leb 8 (get_or (sizes (row_up s)) (par_up s) 0) (omega (arith, length-items (row_up s) (par_up s), h.inside))
 
     -- the need
     pub need-room : get_or (block ws t (get_or ns (level - 1) 0)) 0 0 < 23 → 0 ≡ need_up s.at s.rows
     need-room b = sym (h.needs ∙ rw (up_room b))
 
     pub need-full : (r : ℕ) → 23 ≤ get_or (block ws t (get_or ns (level - 1) 0)) 0 0 → r ≡ need_up (par_up s) (drop 1 s.rows) → 1 + r ≡ need_up s.at s.rows
-    need-full r b e = let z : need_up s.at s.rows ≡ suc (need_up (par_up s) (drop 1 s.rows)) = h.needs ∙ rw (up-full b) in omega arith
+    need-full r b e = let z : need_up s.at s.rows ≡ suc (need_up (par_up s) (drop 1 s.rows)) = h.needs ∙ rw (up_full b) in omega arith
 
   need_none : (i : ℕ) (Rs : List Row) → length Rs ≡ 0 → 1 ≡ need_up i Rs
   need_none i [] h = refl
@@ -133,7 +133,7 @@ module _ (ws : List ℕ) (t tree : ℕ) (ns ps : List ℕ) where
 
   -- for each scene of these words
   pub load_up : (level : ℕ) → 1 ≤ level → Grows.Unders ws t tree ns ps level → Placed ws t (get_or ns (level - 1) 0)
-  load_up level b g = up-placed g.scene level g.under (seen g.scene level b g.under)
+  load_up level b g = up_placed g.scene level g.under (seen g.scene level b g.under)
 
   pub unders_up : (level : ℕ) → 1 ≤ level → Grows.Unders ws t tree ns ps level → Grows.Unders ws t tree ns ps (level - 1)
   unders_up level b g = record { scene = up_scene g.scene; under = (seen g.scene level b g.under).above }

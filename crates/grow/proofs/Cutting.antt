@@ -46,10 +46,10 @@ module _ (ws : List ℕ) (t tree : ℕ) (ns ps : List ℕ) (level : ℕ) (s : Gr
         put_other (put s.store n left) (get_or s.free 0 0) right y (λ z. let k = simp (eq-eqb y (get_or s.free 0 0) z) at (head y) in omega (arith, u.each_once y)) ∙
         put_other s.store n left y (λ z. let k = rw z at c in omega arith)) u.holds
 
-    pub cut-under : (m : List ℕ) → m ≡ Grows.cut_words ws t n left right → Grows.Under (cut_from s n left right) m t tree ns ps level
-    cut-under m f = record {
+    pub cut_under : (m : List ℕ) → m ≡ Grows.cut_words ws t n left right → Grows.Under (cut_from s n left right) m t tree ns ps level
+    cut_under m f = record {
       words = sym (f ∙ rw (← u.words, ← u.trees)
-          (Spelling.cut-spell s.roots s.nodes s.store u.sixteen s.free some u.stack top_range.0 top_range.1 n left right lo hi el er));
+          (Spelling.cut_spell s.roots s.nodes s.store u.sixteen s.free some u.stack top_range.0 top_range.1 n left right lo hi el er));
       trees = u.trees;
       few_trees = u.few_trees;
       few_nodes = u.few_nodes;

@@ -177,11 +177,11 @@ module _ (ws : List ℕ) (t n p : ℕ) (g : LeafPlace ws t n p) where
         let m : lent a ≤ length (drop a w) = simp length-drop (omega (arith, roomy)) in
         rw (length-take-le (lent a) (drop a w) m) (omega (arith, inside))
 
-    pub key-asks : p < length (take (lent 1) (drop (base t n + 1) ws))
-    key-asks = rw (part_of fore (leaf_words items) rear ws around (base t n) fore_length 1 (lent 1) (omega (arith, lent_is 1, sixteen, roomy))) (long (leaf_words items) 1 sixteen (omega arith))
+    pub key_asks : p < length (take (lent 1) (drop (base t n + 1) ws))
+    key_asks = rw (part_of fore (leaf_words items) rear ws around (base t n) fore_length 1 (lent 1) (omega (arith, lent_is 1, sixteen, roomy))) (long (leaf_words items) 1 sixteen (omega arith))
 
-    pub key-ends : base t n + 2 + (get_or ws (base t n) 0 - 32) ≤ length ws
-    key-ends = omega (arith, g.placed.room)
+    pub key_ends : base t n + 2 + (get_or ws (base t n) 0 - 32) ≤ length ws
+    key_ends = omega (arith, g.placed.room)
 
     module _ (ks : List ℕ) (e : ks ≡ inserted (take (lent 1) (drop (base t n + 1) ws)) p key) where
       abbrev half : List ℕ
@@ -200,11 +200,11 @@ module _ (ws : List ℕ) (t n p : ℕ) (g : LeafPlace ws t n p) where
       abbrev once : List ℕ
       once = put_mid (base t n + 1) (lent 1) ws ks
 
-      pub value-asks : p < length (take (lent 8) (drop (base t n + 8) once))
-      value-asks = rw (part_of fore half rear once half-way (base t n) fore_length 8 (lent 8) (omega (arith, lent_is 8, half_length, roomy))) (long half 8 half_length (omega arith))
+      pub value_asks : p < length (take (lent 8) (drop (base t n + 8) once))
+      value_asks = rw (part_of fore half rear once half-way (base t n) fore_length 8 (lent 8) (omega (arith, lent_is 8, half_length, roomy))) (long half 8 half_length (omega arith))
 
-      pub value-ends : base t n + 9 + (get_or ws (base t n) 0 - 32) ≤ length once
-      value-ends = rw half-way (simp (length-append, length-pad, fore_length, length-drop) (omega (arith, g.placed.room)))
+      pub value_ends : base t n + 9 + (get_or ws (base t n) 0 - 32) ≤ length once
+      value_ends = rw half-way (simp (length-append, length-pad, fore_length, length-drop) (omega (arith, g.placed.room)))
 
       module _ (vs : List ℕ) (f : vs ≡ inserted (take (lent 8) (drop (base t n + 8) once)) p value) where
         abbrev whole : List ℕ
@@ -229,8 +229,8 @@ module _ (ws : List ℕ) (t n p : ℕ) (g : LeafPlace ws t n p) where
             ap (λ (w : List ℕ). fore ++ (w ++ rear)) (entry_comes items p key value (get_or ws (base t n) 0 + 1) (omega (arith, first_is))) ∙
             stored (leaf_words (insert_at p (key, value) items)) (Spelling.leaf_length (insert_at p (key, value) items))
 
-        pub tried-done : Tries t n p (key, value) ws whole true
-        tried-done = record {
+        pub tried_done : Tries t n p (key, value) ws whole true
+        tried_done = record {
           room = sym (lt-ltb (get_or (block ws t n) 0 0) 39 (omega (arith, first_is, first_block)));
           done_words = λ e. filled;
           full_words = λ e. absurd (true≢false e);

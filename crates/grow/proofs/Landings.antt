@@ -14,7 +14,7 @@ use Rattle.forest.specs.Pools.{leaf_words}
 use Rattle.forest.proofs.ListLaws.{drop_one}
 use Rattle.forest.proofs.RowLaws.{length-items}
 use Rattle.pool.specs.Stores.{put, spell, block, with_block, top_node, Placed}
-use Rattle.pool.proofs.Bridges.{spell-placed, spell-block, spell-with_block}
+use Rattle.pool.proofs.Bridges.{spell_placed, spell-block, spell-with_block}
 use Rattle.node.specs.declared.SplitOff.{SplitOff}
 use Rattle.node.specs.Nodes.{Leaf, leaf_pairs, split_of}
 use Rattle.node.proofs.Words.{leaf_pairs_lem, leaf_is}
@@ -33,25 +33,25 @@ leaf_num s = Grows.num_at s.row s.at
 
 module _ (ws : List ℕ) (t tree : ℕ) (ns ps : List ℕ) (level : ℕ) where
   module _ (s : Grows.Scene) (p : ℕ) (d : Grows.Site s p ws t tree ns ps level) where
-    pub leaf-range : (1 ≤ leaf_num s) × (leaf_num s ≤ s.nodes)
-    leaf-range = d.range_more (leaf_num s) (Mem.num_at-counts s.row s.at d.under.within)
+    pub leaf_range : (1 ≤ leaf_num s) × (leaf_num s ≤ s.nodes)
+    leaf_range = d.range_more (leaf_num s) (Mem.num_at-counts s.row s.at d.under.within)
 
     pub leaf_placed : Placed ws t (get_or ns level 0)
     leaf_placed =
         rw (d.node, ← d.under.words, ← d.under.trees)
-        (spell-placed s.roots s.nodes s.store s.free d.under.sixteen (leaf_num s) leaf-range.0 leaf-range.1)
+        (spell_placed s.roots s.nodes s.store s.free d.under.sixteen (leaf_num s) leaf_range.0 leaf_range.1)
 
     pub leaf_block : block ws t (get_or ns level 0) ≡ leaf_words (leaf_of s)
     leaf_block =
         rw (d.node, ← d.under.words, ← d.under.trees)
-        (spell-block s.roots s.nodes s.store s.free d.under.sixteen (leaf_num s) leaf-range.0 leaf-range.1 ∙
+        (spell-block s.roots s.nodes s.store s.free d.under.sixteen (leaf_num s) leaf_range.0 leaf_range.1 ∙
         Mem.holds_at leaf_words s.store s.row s.at d.under.within d.leaves)
 
-    pub leaf-size : (1 ≤ length (leaf_of s)) × (length (leaf_of s) ≤ 7)
-    leaf-size = rw (length-items s.row s.at) (d.some, d.few)
+    pub leaf_size : (1 ≤ length (leaf_of s)) × (length (leaf_of s) ≤ 7)
+    leaf_size = rw (length-items s.row s.at) (d.some, d.few)
 
-    pub leaf-inside : p ≤ length (leaf_of s)
-    leaf-inside = rw (length-items s.row s.at) d.inside
+    pub leaf_inside : p ≤ length (leaf_of s)
+    leaf_inside = rw (length-items s.row s.at) d.inside
 
     pub leaf_room : get_or (block ws t (get_or ns level 0)) 0 0 < 39 → full 7 s.at s.row ≡ false
     leaf_room b = let z = rw leaf_block at b in lt-leb 7 (get_or (sizes s.row) s.at 0) (omega (arith, length-items s.row s.at))
@@ -62,18 +62,18 @@ module _ (ws : List ℕ) (t tree : ℕ) (ns ps : List ℕ) (level : ℕ) where
     pub leaf_place : LeafPlace ws t (get_or ns level 0) (get_or ps level 0)
     leaf_place = record {
       placed = leaf_placed;
-      leaf = rw leaf_block (leaf_is (leaf_of s) leaf-size.0 leaf-size.1);
-      inside = rw (leaf_block, d.place) (omega (arith, leaf-inside));
+      leaf = rw leaf_block (leaf_is (leaf_of s) leaf_size.0 leaf_size.1);
+      inside = rw (leaf_block, d.place) (omega (arith, leaf_inside));
     }
 
     pub leaf_items_lem : leaf_pairs (block ws t (get_or ns level 0)) ≡ leaf_of s
-    leaf_items_lem = ap leaf_pairs leaf_block ∙ leaf_pairs_lem (leaf_of s) leaf-size.1
+    leaf_items_lem = ap leaf_pairs leaf_block ∙ leaf_pairs_lem (leaf_of s) leaf_size.1
 
     -- the leaf gets other items
     pub leaf_put : (ys : List Item) → with_block ws t (get_or ns level 0) (leaf_words ys) ≡ spell s.roots s.nodes (put s.store (leaf_num s) (leaf_words ys)) s.free
     leaf_put ys =
         rw (d.node, ← d.under.words, ← d.under.trees)
-        (spell-with_block s.roots s.nodes s.store s.free d.under.sixteen (leaf_num s) leaf-range.0 leaf-range.1 _ (Spelling.leaf_length ys))
+        (spell-with_block s.roots s.nodes s.store s.free d.under.sixteen (leaf_num s) leaf_range.0 leaf_range.1 _ (Spelling.leaf_length ys))
 
   -- the need, for each scene of these words
   pub more_here : (r : ℕ) → ((s : Grows.Scene) → Grows.Under s ws t tree ns ps level → r ≡ need_up s.at s.rows) → (s : Grows.Scene) (p : ℕ) → Grows.Land s p ws t tree ns ps level → 1 + r ≡ Grows.leaf_need s
@@ -104,8 +104,8 @@ module _ (ws : List ℕ) (t tree : ℕ) (ns ps : List ℕ) (level : ℕ) (x : It
 
 module _ (ws : List ℕ) (t tree : ℕ) (ns ps : List ℕ) (level : ℕ) (w : List ℕ) (e : w ≡ block ws t (get_or ns level 0)) where
   module _ (s : Grows.Scene) (p : ℕ) (d : Grows.Land s p ws t tree ns ps level) where
-    pub split-asks : Leaf w × (get_or w 0 0 ≡ 39) × (get_or ps level 0 ≤ 7)
-    split-asks =
+    pub split_asks : Leaf w × (get_or w 0 0 ≡ 39) × (get_or ps level 0 ≤ 7)
+    split_asks =
         let z : get_or w 0 0 ≡ 32 + length (leaf_of s) = ap (λ (v : List ℕ). get_or v 0 0) (e ∙ leaf_block ws t tree ns ps level s p d.site) in
         let n = length-items s.row s.at in
         let m = leb-true 7 (get_or (sizes s.row) s.at 0) d.no_room in
@@ -141,8 +141,8 @@ module _ (ws : List ℕ) (t tree : ℕ) (ns ps : List ℕ) (level : ℕ) (w : Li
     key-is : r.key ≡ front (Grows.right_part 7 p x (leaf_of s))
     key-is = ap (λ (o : SplitOff). o.key) q ∙ rw (pairs_are s p g.land, d.place)
 
-    pub cuts-asks : Grows.AskCut ws t (get_or ns level 0)
-    cuts-asks = record {
+    pub cuts_asks : Grows.AskCut ws t (get_or ns level 0)
+    cuts_asks = record {
       takes = Cutting.takes ws t tree ns ps level s u some-free;
       node = leaf_placed ws t tree ns ps level s p d;
     }
@@ -151,17 +151,17 @@ module _ (ws : List ℕ) (t tree : ℕ) (ns ps : List ℕ) (level : ℕ) (w : Li
     apart = omega (arith, Mem.num_at-counts s.row s.at u.within, d.once_more (leaf_num s))
 
     module _ (m : List ℕ) (f : m ≡ Grows.cut_words ws t (get_or ns level 0) r.left r.right) where
-      pub climb-asks : Grows.Climb (cut_leaf s p x) m t tree ns ps level
-      climb-asks =
-          let n = leaf-range ws t tree ns ps level s p d in
+      pub climb_asks : Grows.Climb (cut_leaf s p x) m t tree ns ps level
+      climb_asks =
+          let n = leaf_range ws t tree ns ps level s p d in
           record {
-            under = Cutting.cut-under ws t tree ns ps level s u some-free (leaf_num s) n.0 n.1 apart
+            under = Cutting.cut_under ws t tree ns ps level s u some-free (leaf_num s) n.0 n.1 apart
                 (leaf_words (Grows.left_part 7 p x (leaf_of s))) (leaf_words (Grows.right_part 7 p x (leaf_of s)))
                 (Spelling.leaf_length (Grows.left_part 7 p x (leaf_of s))) (Spelling.leaf_length (Grows.right_part 7 p x (leaf_of s))) m (f ∙ rw (left_is, right_is, d.node));
             enough = still-enough;
           }
 
-      pub climb-done : (rhs : ℕ) (o : List ℕ) → rhs ≡ top_node ws t → ((s' : Grows.Scene) → Grows.Climb s' m t tree ns ps level → o ≡ Grows.climbed s' tree (r.key, rhs)) →
+      pub climb_done : (rhs : ℕ) (o : List ℕ) → rhs ≡ top_node ws t → ((s' : Grows.Scene) → Grows.Climb s' m t tree ns ps level → o ≡ Grows.climbed s' tree (r.key, rhs)) →
           o ≡ Grows.landed_words s p tree x
-      climb-done rhs o a ens =
-          ens (cut_leaf s p x) climb-asks ∙ rw (key-is, a, Cutting.top_is ws t tree ns ps level s u some-free) (landed_full s p tree x)
+      climb_done rhs o a ens =
+          ens (cut_leaf s p x) climb_asks ∙ rw (key-is, a, Cutting.top_is ws t tree ns ps level s u some-free) (landed_full s p tree x)

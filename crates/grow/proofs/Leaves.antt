@@ -12,7 +12,7 @@ use Rattle.forest.specs.Pairs.{Item, has, place}
 use Rattle.forest.specs.Rows.{Row, Tree, node, front, nums, line, items_at, keeps, put_row, set_row, full, refresh, Good}
 use Rattle.forest.specs.Trees.{numbers, leaf_of, leaf_items, grow_up, need_up, put_leaf, put_tree, need}
 use Rattle.forest.specs.Pools.{leaf_words, root_above, root}
-use Rattle.forest.proofs.ListLaws.{is, isnt, test, same, total-insert_at, total_head}
+use Rattle.forest.proofs.ListLaws.{is, isnt, test, total-insert_at, total_head}
 use Rattle.forest.proofs.RowLaws.{put_row-room, put_row-full, keeps-fits, set_row-nums}
 use Rattle.forest.proofs.TreeLaws.{NoneEmpty, none_empty, lands}
 use Rattle.forest.proofs.TowerLaws

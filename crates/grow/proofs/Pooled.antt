@@ -12,12 +12,11 @@ use Rattle.forest.specs.Rows.{Tree, Good}
 use Rattle.forest.specs.Trees.{numbers, put_tree, need}
 use Rattle.forest.specs.Pools
 use Rattle.forest.proofs.ListLaws.{is, isnt, test, map-set}
-use Rattle.forest.proofs.TreeLaws.{weight-put}
-use Rattle.forest.proofs.PoolLaws.{good_at, Free, own_tree, done-formed}
+use Rattle.forest.proofs.TreeLaws.{weight_put}
+use Rattle.forest.proofs.PoolLaws.{good_at, Free, own_tree, done_formed}
 use Rattle.forest.proofs.WordLaws.{count_tree, other_words, count-append}
 use Rattle.pool.specs.Stores.{Store, spell}
 use Rattle.pool.proofs.Spell.{encode-spell, spell_ext}
-use Rattle.grow.proofs.Mem
 use Rattle.forest.proofs.CountLaws.{small, in_range}
 pub use Rattle.pool.proofs.HeldTrees.{pool_holds, tree_agree}
 use Rattle.grow.proofs.Leaves
@@ -48,11 +47,11 @@ module _ (m : ℕ) (lo : 1 ≤ m) (hi : m ≤ 4) (p : Pools.Pool) (w : Pools.Wel
     words y = elim (test (leb 1 (count y (numbers (put_tree 7 k v p.free x))))) [
       | is e ↦ tree_agree after (Pools.node_words (set p.trees t (put_tree 7 k v p.free x))) (put_tree 7 k v p.free x) y
           (Leaves.put_holds m lo k v p.free x (Pools.node_words p.trees) good enough tree_once (pool_holds m p w t x refl))
-          (pool_holds m (Pools.done (Pools.put t k v) p) (done-formed m lo hi (Pools.put t k v) p w free) t (put_tree 7 k v p.free x) (own_tree (Pools.put t k v) p free))
+          (pool_holds m (Pools.done (Pools.put t k v) p) (done_formed m lo hi (Pools.put t k v) p w free) t (put_tree 7 k v p.free x) (own_tree (Pools.put t k v) p free))
           (leb-true _ _ e)
       | isnt e ↦
           let z = leb-false 1 (count y (numbers (put_tree 7 k v p.free x))) e in
-          let u = weight-put m 7 k lo (λ n. once (eqb y n)) v p.free x good enough in
+          let u = weight_put m 7 k lo (λ n. once (eqb y n)) v p.free x good enough in
           let d : count y (take (need 7 k x) p.free) + count y (drop (need 7 k x) p.free) ≡ count y p.free =
           sym (count-append y (take (need 7 k x) p.free) (drop (need 7 k x) p.free)) ∙ ap (count y) (take-append-drop (need 7 k x) p.free) in
           Leaves.put_keeps m lo k v p.free x (Pools.node_words p.trees) good enough y (omega arith) ∙

@@ -18,11 +18,11 @@ use Rattle.forest.specs.declared.Reply.TheVariants.{Nothing, Value}
 use Rattle.pool.specs.Stores.{block, put, spell}
 use Rattle.node.specs.Nodes.{leaf_pairs}
 use Rattle.path.specs.Cores.{Ready, Of, Goes, Ends}
-use Rattle.path.proofs.Roots.{trees-are, the_pool}
+use Rattle.path.proofs.Roots.{trees_are, the_pool}
 use Rattle.grow.specs.Grows
 use Rattle.grow.specs.Puts.{is_at, LeafPlace, replaced_words, Replaces, Tries, Adds, Puts}
 use Rattle.grow.proofs.Landings
-use Rattle.grow.proofs.Sites.{scene_of, found-site}
+use Rattle.grow.proofs.Sites.{scene_of, found_site}
 use Rattle.grow.proofs.Calls
 use Rattle.grow.proofs.Putting.{there, root_word}
 
@@ -86,7 +86,7 @@ module _ (ws : List ℕ) (t tree k v : ℕ) (y : Ready ws t tree) (q : 1 ≤ get
       goes-there = d.goes.to p o ∙ ap (λ (x : Tree). cursor_at tree (path_of x (seek k (leaves x)))) (tree_is p o)
 
       site : Grows.Site (s p o) (at p o) ws t tree c.nodes c.places level
-      site = found-site p o.formed ws o.same t tree k (trees-are ws t tree y p o) y.there (L p o) (Rs p o) (tree_is p o) c goes-there
+      site = found_site p o.formed ws o.same t tree k (trees_are ws t tree y p o) y.there (L p o) (Rs p o) (tree_is p o) c goes-there
 
       place_is : e ≡ at p o
       place_is = sym d.place ∙ site.place
@@ -105,8 +105,8 @@ module _ (ws : List ℕ) (t tree k v : ℕ) (y : Ready ws t tree) (q : 1 ≤ get
       unfolding replaced_words
       replaced-is = rw (items-are, place_is, ← d.node) (Landings.leaf_put ws t tree c.nodes c.places level (s p o) (at p o) site (set (items p o) (at p o) (k, v)))
 
-    pub place-asks : LeafPlace ws t n e
-    place-asks = rw (← d.node, ← d.place) (Landings.leaf_place ws t tree c.nodes c.places level (s own mine) (at own mine) (site own mine))
+    pub place_asks : LeafPlace ws t n e
+    place_asks = rw (← d.node, ← d.place) (Landings.leaf_place ws t tree c.nodes c.places level (s own mine) (at own mine) (site own mine))
 
     -- after a try to replace
     module _ (m : List ℕ) (r : Reply) (a : Replaces t n e k v ws m r) where
@@ -121,16 +121,16 @@ module _ (ws : List ℕ) (t tree k v : ℕ) (y : Ready ws t tree) (q : 1 ≤ get
               (Pools.encode (Pools.call (Pools.put tree k v) p).pool ≡ m) × ((Pools.call (Pools.put tree k v) p).answer ≡ r)
           both p o true h =
               let u = is-at p o ∙ Calls.present_at p o.formed tree k v (in-pool p o) (L p o) (Rs p o) (tree_is p o) h in
-              let n = Calls.present-need p o.formed tree k v (in-pool p o) (L p o) (Rs p o) (tree_is p o) h in
+              let n = Calls.present_need p o.formed tree k v (in-pool p o) (L p o) (Rs p o) (tree_is p o) h in
               let d = Calls.done-call p tree k v (in-pool p o) (omega arith) in (
                 ap (λ (d : Pools.Done). Pools.encode d.pool) d ∙
-                    sym (a.hit_words u ∙ replaced-is p o ∙ Calls.present-words p o.formed tree k v (in-pool p o) (L p o) (Rs p o) (tree_is p o) h),
+                    sym (a.hit_words u ∙ replaced-is p o ∙ Calls.present_words p o.formed tree k v (in-pool p o) (L p o) (Rs p o) (tree_is p o) h),
                 ap (λ (d : Pools.Done). d.answer) d ∙
-                    Calls.present-held p o.formed tree k v (in-pool p o) (L p o) (Rs p o) (tree_is p o) h ∙
+                    Calls.present_held p o.formed tree k v (in-pool p o) (L p o) (Rs p o) (tree_is p o) h ∙
                     sym (a.hit_reply u ∙ ap Value (value-is p o)),
               )
           both p o false h =
-              absurd (z (a.miss_reply (is-at p o ∙ Calls.absent-at p o.formed tree k v (in-pool p o) (L p o) (Rs p o) (tree_is p o) h)))
+              absurd (z (a.miss_reply (is-at p o ∙ Calls.absent_at p o.formed tree k v (in-pool p o) (L p o) (Rs p o) (tree_is p o) h)))
 
       -- it was not
       module _ (z : (x : ℕ) → r ≡ Value x → ⊥) where
@@ -142,10 +142,10 @@ module _ (ws : List ℕ) (t tree k v : ℕ) (y : Ready ws t tree) (q : 1 ≤ get
             go false h = refl
 
         still : m ≡ ws
-        still = a.miss_words (is-at own mine ∙ Calls.absent-at own mine.formed tree k v (in-pool own mine) (L own mine) (Rs own mine) (tree_is own mine) (absent own mine))
+        still = a.miss_words (is-at own mine ∙ Calls.absent_at own mine.formed tree k v (in-pool own mine) (L own mine) (Rs own mine) (tree_is own mine) (absent own mine))
 
-        pub still-place : LeafPlace m t n e
-        still-place = rw still place-asks
+        pub still_place : LeafPlace m t n e
+        still_place = rw still place_asks
 
         -- after a try to put it in the leaf as it is
         module _ (o : List ℕ) (b : Bool) (f : Tries t n e (k, v) m o b) where
@@ -167,7 +167,7 @@ module _ (ws : List ℕ) (t tree k v : ℕ) (y : Ready ws t tree) (q : 1 ≤ get
                     ap (λ (d : Pools.Done). Pools.encode d.pool) d ∙
                         sym (Landings.room-done ws t tree c.nodes c.places level (k, v) o b tried (s p i) (at p i) (site p i) h ∙
                         Calls.room_words p i.formed tree k v (in-pool p i) (L p i) (Rs p i) (tree_is p i) (absent p i) r),
-                    ap (λ (d : Pools.Done). d.answer) d ∙ Calls.absent-held p i.formed tree k v (in-pool p i) (L p i) (Rs p i) (tree_is p i) (absent p i),
+                    ap (λ (d : Pools.Done). d.answer) d ∙ Calls.absent_held p i.formed tree k v (in-pool p i) (L p i) (Rs p i) (tree_is p i) (absent p i),
                   )
 
           -- there was none
@@ -175,8 +175,8 @@ module _ (ws : List ℕ) (t tree k v : ℕ) (y : Ready ws t tree) (q : 1 ≤ get
             unchanged : o ≡ ws
             unchanged = tried.full_words h
 
-            pub still-ready : Ready o t tree
-            still-ready = rw unchanged y
+            pub still_ready : Ready o t tree
+            still_ready = rw unchanged y
 
             land : (p : Pools.Pool) (i : Of ws p) → Grows.Land (s p i) (at p i) ws t tree c.nodes c.places level
             land p i = Landings.lands_full ws t tree c.nodes c.places level (k, v) o b tried (s p i) (at p i) (site p i) h
@@ -198,7 +198,7 @@ module _ (ws : List ℕ) (t tree k v : ℕ) (y : Ready ws t tree) (q : 1 ≤ get
                       ap (λ (d : Pools.Done). Pools.encode d.pool) d ∙
                           sym (x.done_words l ∙ Calls.full_words p i.formed tree k v (in-pool p i) (L p i) (Rs p i) (tree_is p i) (absent p i) (land p i).no_room l),
                       ap (λ (d : Pools.Done). d.answer) d ∙
-                          Calls.absent-held p i.formed tree k v (in-pool p i) (L p i) (Rs p i) (tree_is p i) (absent p i) ∙ sym (x.done_reply l),
+                          Calls.absent_held p i.formed tree k v (in-pool p i) (L p i) (Rs p i) (tree_is p i) (absent p i) ∙ sym (x.done_reply l),
                     )
                 both p i false h =
                     let l : length p.free < Grows.leaf_need (s p i) = leb-false _ _ h in
@@ -214,8 +214,8 @@ module _ (ws : List ℕ) (t tree k v : ℕ) (y : Ready ws t tree) (q : 1 ≤ get
               made-is : made ≡ c
               made-is = let z : Goes (seek k) ws tree made = rw unchanged at g in z.to own mine ∙ sym (d.goes.to own mine)
 
-              pub add-asks : (1 ≤ made.size) × Grows.Lands o t made.tree made.nodes made.places (made.size - 1)
-              add-asks = rw (made-is, unchanged) (d.some, record { scene = s own mine; entry = at own mine; land = land own mine })
+              pub add_asks : (1 ≤ made.size) × Grows.Lands o t made.tree made.nodes made.places (made.size - 1)
+              add_asks = rw (made-is, unchanged) (d.some, record { scene = s own mine; entry = at own mine; land = land own mine })
 
               pub added : (o' : List ℕ) (r' : Reply) →
                   ((s : Grows.Scene) (p : ℕ) → Grows.Land s p o t made.tree made.nodes made.places (made.size - 1) → Adds s p made.tree (k, v) o o' r') → Puts tree k v ws o' r'

@@ -2,7 +2,7 @@
 use mathlib.Core.Path.{◌≡◌, refl, sym, ap, ◌∙◌}
 use mathlib.Core.List.{List, [], ◌∷◌, map}
 use mathlib.Core.Logic.{⊎_elim}
-use Prim.Native.Nat.{ℕ, ◌+◌, ◌-◌, ◌≤◌, ◌<◌}
+use Prim.Native.Nat.{ℕ, ◌+◌, ◌≤◌, ◌<◌}
 use native.Mathlib.Omega.{arith}
 use lib.ListN.{length, drop, get_or, set, length-map}
 use denote.Enum.Declared
@@ -20,7 +20,7 @@ use Rattle.pool.specs.Stores.{spell, stack_at, free_count, Sixteen}
 use Rattle.pool.proofs.Spell.{encode-spell}
 use Rattle.pool.proofs.Bridges.{spell-length, spell-stack_at, spell-frees}
 use Rattle.path.specs.Cores.{Ready, Of}
-use Rattle.path.proofs.Roots.{root-place, trees-are, root_is, some_root, the_pool}
+use Rattle.path.proofs.Roots.{root-place, trees_are, root_is, some_root, the_pool}
 use Rattle.grow.specs.Grows
 use Rattle.grow.specs.Puts.{Puts, Empty}
 use Rattle.grow.proofs.Mem
@@ -41,19 +41,19 @@ module _ (ws : List ℕ) (t tree : ℕ) (y : Ready ws t tree) where
 
   module _ (p : Pools.Pool) (o : Of ws p) where
     pub there : tree < length p.trees
-    there = omega (arith, trees-are ws t tree y p o, y.there)
+    there = omega (arith, trees_are ws t tree y p o, y.there)
 
     spelled : spell (map Pools.root p.trees) p.count (Pools.node_words p.trees) p.free ≡ ws
     spelled = sym (encode-spell p) ∙ o.same
 
     roots-are : length (map Pools.root p.trees) ≡ t
-    roots-are = length-map p.trees Pools.root ∙ sym (trees-are ws t tree y p o)
+    roots-are = length-map p.trees Pools.root ∙ sym (trees_are ws t tree y p o)
 
     sixteen : Sixteen (Pools.node_words p.trees)
     sixteen n = node-length p.trees n
 
-    pub stack-asks : stack_at ws t < length ws
-    stack-asks =
+    pub stack_asks : stack_at ws t < length ws
+    stack_asks =
         rw (← spelled, ← roots-are)
         (omega (
           arith,
@@ -61,8 +61,8 @@ module _ (ws : List ℕ) (t tree : ℕ) (y : Ready ws t tree) where
           spell-length (map Pools.root p.trees) p.count (Pools.node_words p.trees) p.free sixteen,
         ))
 
-    pub free-is : (f : ℕ) → f ≡ free_count ws t → f ≡ length p.free
-    free-is f q = q ∙ rw (← spelled, ← roots-are) (spell-frees (map Pools.root p.trees) p.count (Pools.node_words p.trees) p.free sixteen)
+    pub free_is : (f : ℕ) → f ≡ free_count ws t → f ≡ length p.free
+    free_is f q = q ∙ rw (← spelled, ← roots-are) (spell-frees (map Pools.root p.trees) p.count (Pools.node_words p.trees) p.free sixteen)
 
     pub root_word : get_or ws (tree + 1) 0 ≡ Pools.root (Pools.tree_of p tree)
     root_word = let z : tree + 1 ≡ 1 + tree = omega arith in rw z (root_is ws t tree y p o)
@@ -93,7 +93,7 @@ module _ (ws : List ℕ) (t tree : ℕ) (y : Ready ws t tree) where
     planted w h l =
         let r = top h in
         rw (← spelled, ← roots-are)
-        (Spelling.planted-spell (map Pools.root p.trees) p.count (Pools.node_words p.trees) sixteen p.free h few r.0 r.1 tree w (omega (arith, roots-are, y.there)) l)
+        (Spelling.planted_spell (map Pools.root p.trees) p.count (Pools.node_words p.trees) sixteen p.free h few r.0 r.1 tree w (omega (arith, roots-are, y.there)) l)
 
 -- An empty tree
 module _ (ws : List ℕ) (t tree k v : ℕ) (g : Empty ws t tree) (f : ℕ) (q : f ≡ free_count ws t) where
@@ -108,10 +108,10 @@ module _ (ws : List ℕ) (t tree k v : ℕ) (g : Empty ws t tree) (f : ℕ) (q :
     in-pool = there ws t tree g.ready p o
 
     counted : f ≡ length p.free
-    counted = free-is ws t tree g.ready p o f q
+    counted = free_is ws t tree g.ready p o f q
 
     need-one : need 7 k (Pools.tree_of p tree) ≡ 1
-    need-one = Calls.empty-need p o.formed tree k v in-pool empty
+    need-one = Calls.empty_need p o.formed tree k v in-pool empty
 
   pub first-refused : f ≡ 0 → Puts tree k v ws ws (Refused NoRoom)
   first-refused z = record {
@@ -133,13 +133,13 @@ module _ (ws : List ℕ) (t tree k v : ℕ) (g : Empty ws t tree) (f : ℕ) (q :
         let c = counted p o in
         ap (λ (d : Pools.Done). Pools.encode d.pool) (Calls.done-call p tree k v (in-pool p o) (omega (arith, need-one p o))) ∙
         sym (b ∙ rw a (planted ws t tree g.ready p o (Pools.leaf_words ((k, v) ∷ [])) (omega arith) (Spelling.leaf_length ((k, v) ∷ [])) ∙
-        Calls.empty-words p u tree k v (in-pool p o) (empty p o) (omega arith)));
+        Calls.empty_words p u tree k v (in-pool p o) (empty p o) (omega arith)));
     answer = λ p u e.
         let o : Of ws p = record { formed = u; same = e } in
         ap (λ (d : Pools.Done). d.answer) (Calls.done-call p tree k v (in-pool p o) (omega (arith, need-one p o, counted p o))) ∙
-        Calls.empty-held p u tree k v (in-pool p o) (empty p o);
+        Calls.empty_held p u tree k v (in-pool p o) (empty p o);
   }
 
 -- what the code asks at first
 pub stack_there : (ws : List ℕ) (t tree : ℕ) → Ready ws t tree → stack_at ws t < length ws
-stack_there ws t tree y = stack-asks ws t tree y y.sound.pool (the_pool ws t tree y)
+stack_there ws t tree y = stack_asks ws t tree y y.sound.pool (the_pool ws t tree y)

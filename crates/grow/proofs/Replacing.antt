@@ -74,8 +74,8 @@ module _ (ws : List ℕ) (t n p : ℕ) (g : LeafPlace ws t n p) where
     seven : p < 7
     seven = omega (arith, within, InPlace.few ws t n p g)
 
-    pub miss-key : (get_or ws (base t n + 1 + p) 0 ≡ k → ⊥) → Replaces t n p k v ws ws Nothing
-    miss-key z = miss k v (at_other items p k (λ y. z (InPlace.key_at ws t n p g seven ∙ y)))
+    pub miss_key : (get_or ws (base t n + 1 + p) 0 ≡ k → ⊥) → Replaces t n p k v ws ws Nothing
+    miss_key z = miss k v (at_other items p k (λ y. z (InPlace.key_at ws t n p g seven ∙ y)))
 
     -- it is
     pub hit : get_or ws (base t n + 1 + p) 0 ≡ k → Replaces t n p k v ws (set ws (base t n + 8 + p) v) (Value (get_or ws (base t n + 8 + p) 0))
@@ -93,18 +93,18 @@ module _ (ws : List ℕ) (t n p : ℕ) (g : LeafPlace ws t n p) where
 -- An absent key
 module _ (ws : List ℕ) (t tree : ℕ) (ns ps : List ℕ) (level : ℕ) where
   module _ (s : Grows.Scene) (u : Grows.Under s ws t tree ns ps level) where
-    pub stack-in : stack_at ws t < length ws
-    stack-in =
+    pub stack_in : stack_at ws t < length ws
+    stack_in =
         rw (← u.words, ← u.trees)
         (omega (arith, spell-stack_at s.roots s.nodes s.store s.free u.sixteen, spell-length s.roots s.nodes s.store s.free u.sixteen))
 
-    pub free-is : (f : ℕ) → f ≡ free_count ws t → f ≡ length s.free
-    free-is f q = q ∙ rw (← u.words, ← u.trees) (spell-frees s.roots s.nodes s.store s.free u.sixteen)
+    pub free_is : (f : ℕ) → f ≡ free_count ws t → f ≡ length s.free
+    free_is f q = q ∙ rw (← u.words, ← u.trees) (spell-frees s.roots s.nodes s.store s.free u.sixteen)
 
   module _ (x : Item) (f n : ℕ) (q : f ≡ free_count ws t) (a : (s : Grows.Scene) (p : ℕ) → Grows.Land s p ws t tree ns ps level → n ≡ Grows.leaf_need s) where
     pub refuse : f < n → (s : Grows.Scene) (p : ℕ) → Grows.Land s p ws t tree ns ps level → Adds s p tree x ws ws (Refused NoRoom)
     refuse h s p d =
-        let y = free-is s d.site.under f q in
+        let y = free_is s d.site.under f q in
         let z = a s p d in
         record {
           done_words = λ b. absurd (omega arith);
@@ -117,13 +117,13 @@ module _ (ws : List ℕ) (t tree : ℕ) (ns ps : List ℕ) (level : ℕ) where
     fits h g = record {
       scene = g.scene;
       entry = g.entry;
-      landed = record { land = g.land; enough = omega (arith, free-is g.scene g.land.site.under f q, a g.scene g.entry g.land) };
+      landed = record { land = g.land; enough = omega (arith, free_is g.scene g.land.site.under f q, a g.scene g.entry g.land) };
     }
 
     pub comes : (o : List ℕ) → n ≤ f → ((s : Grows.Scene) (p : ℕ) → Grows.Landed s p ws t tree ns ps level → o ≡ Grows.landed_words s p tree x) →
         (s : Grows.Scene) (p : ℕ) → Grows.Land s p ws t tree ns ps level → Adds s p tree x ws o Nothing
     comes o h ens s p d =
-        let y = free-is s d.site.under f q in
+        let y = free_is s d.site.under f q in
         let z = a s p d in
         record {
           done_words = λ b. ens s p (record { land = d; enough = b });

@@ -103,8 +103,8 @@ module _ (p : Pools.Pool) (w : Pools.WellFormed leaf_least p) (ws : List ℕ) (s
       along = along ns ps j Rs ((get_or (nums L) j 0, e) ∷ []) (λ h b. (f h (omega (arith, few_rows)), g h (omega (arith, few_rows))));
     }
 
-    pub site-of : Grows.Site (scene_of p k L Rs) e ws t tree ns ps (length Rs)
-    site-of =
+    pub site_of : Grows.Site (scene_of p k L Rs) e ws t tree ns ps (length Rs)
+    site_of =
         let q = up_at j Rs (get_or (nums L) j 0, e) [] in
         let s : 1 ≤ length (items_at L j) = some_at L j (none_empty leaf_least 7 L (omega arith) good.1) at in
         record {
@@ -121,15 +121,15 @@ module _ (p : Pools.Pool) (w : Pools.WellFormed leaf_least p) (ws : List ℕ) (s
 
   -- the cursor of a key
   module _ (c : Cursor) (q : c ≡ cursor_at tree (path_of (L ∷ Rs) (seek k L))) where
-    cursor-is : c ≡ cursor_at tree path
-    cursor-is = q ∙ rw (lt-ltb 0 (length L) (omega (arith, tower_some L Rs good.2)))
+    cursor_is : c ≡ cursor_at tree path
+    cursor_is = q ∙ rw (lt-ltb 0 (length L) (omega (arith, tower_some L Rs good.2)))
 
     pub size_is : c.size ≡ suc (length Rs)
-    size_is = ap (λ (d : Cursor). d.size) cursor-is ∙ length-path_up j Rs ((get_or (nums L) j 0, e) ∷ []) ∙ omega arith
+    size_is = ap (λ (d : Cursor). d.size) cursor_is ∙ length-path_up j Rs ((get_or (nums L) j 0, e) ∷ []) ∙ omega arith
 
-    pub found-site : Grows.Site (scene_of p k L Rs) e ws t tree c.nodes c.places (c.size - 1)
-    found-site =
+    pub found_site : Grows.Site (scene_of p k L Rs) e ws t tree c.nodes c.places (c.size - 1)
+    found_site =
         let z : c.size - 1 ≡ length Rs = omega (arith, size_is) in
-        rw z (site-of c.nodes c.places
-        (λ h b. ap (λ (d : Cursor). get_or d.nodes h 0) cursor-is ∙ node_at_lem tree path h b)
-        (λ h b. ap (λ (d : Cursor). get_or d.places h 0) cursor-is ∙ place_at tree path h b))
+        rw z (site_of c.nodes c.places
+        (λ h b. ap (λ (d : Cursor). get_or d.nodes h 0) cursor_is ∙ node_at_lem tree path h b)
+        (λ h b. ap (λ (d : Cursor). get_or d.places h 0) cursor_is ∙ place_at tree path h b))

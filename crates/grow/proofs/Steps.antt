@@ -21,8 +21,8 @@ use Rattle.node.proofs.Words.{inner_items_lem, inner_is, insert-first, take-firs
 use Rattle.grow.specs.Grows
 use Rattle.grow.proofs.Mem
 use Rattle.grow.proofs.Spelling
-use Rattle.grow.proofs.Cutting.{cut_from, top_range, takes, top_is, cut-under}
-use Rattle.grow.proofs.Climbs.{scene, row_up, par_up, off_up, items_up, up_scene, Seen, seen, up-placed, up-block, up_room, up-full, need_top}
+use Rattle.grow.proofs.Cutting.{cut_from, top_range, takes, top_is, cut_under}
+use Rattle.grow.proofs.Climbs.{scene, row_up, par_up, off_up, items_up, up_scene, Seen, seen, up_placed, up_block, up_room, up_full, need_top}
 
 -- THE STEPS OF A CLIMB
 module _ (ws : List ℕ) (t tree : ℕ) (ns ps : List ℕ) where
@@ -49,7 +49,7 @@ module _ (ws : List ℕ) (t tree : ℕ) (ns ps : List ℕ) where
       a ∙ ap (λ (v : List ℕ). get_or v (tree + 1) 0) (sym u.words) ∙ spell-root s.roots s.nodes s.store s.free u.sixteen tree (rw u.trees u.there) ∙ u.root in
       q ∙
       rw (b, k, ← u.words, ← u.trees)
-      (Spelling.planted-spell s.roots s.nodes s.store u.sixteen s.free h u.stack y.0 y.1 tree _ (rw u.trees u.there) (Spelling.inner_length ((0, root_above s.row s.rows) ∷ x ∷ [])) ∙
+      (Spelling.planted_spell s.roots s.nodes s.store u.sixteen s.free h u.stack y.0 y.1 tree _ (rw u.trees u.there) (Spelling.inner_length ((0, root_above s.row s.rows) ∷ x ∷ [])) ∙
       sym (climbed_top s.roots s.nodes s.store s.free s.row s.rows s.at x (u.levels ∙ z)))
 
 -- the scene of the parent once it is cut, x in it
@@ -107,7 +107,7 @@ module _ (ws : List ℕ) (t tree : ℕ) (ns ps : List ℕ) where
         e ≡ with_block ws t (get_or ns (level - 1) 0) v' → e ≡ Grows.climbed s tree x
     room-done w v' e q h k f =
         let z : v' ≡ inner_words (insert_at (suc (off_up s)) x (items_up s)) =
-        k ∙ rw (q, up-block ws t tree ns ps s level u v, v.place) (inserted x (items_up s) (off_up s) (omega (arith, v.inside)) v.few) in
+        k ∙ rw (q, up_block ws t tree ns ps s level u v, v.place) (inserted x (items_up s) (off_up s) (omega (arith, v.inside)) v.few) in
         f ∙
         rw (z, v.node, ← u.words, ← u.trees)
         (spell-with_block s.roots s.nodes s.store s.free u.sixteen (Grows.num_at (row_up s) (par_up s)) v.low v.high _ (Spelling.inner_length (insert_at (suc (off_up s)) x (items_up s))) ∙
@@ -128,18 +128,18 @@ module _ (ws : List ℕ) (t tree : ℕ) (ns ps : List ℕ) where
       apart =
           omega (arith, Mem.num_at-counts (row_up s) (par_up s) v.row_in, v.counts (Grows.num_at (row_up s) (par_up s)), u.each_once (Grows.num_at (row_up s) (par_up s)))
 
-      pub next-climb : (m left right : List ℕ) → left ≡ inner_words (Grows.left_part 8 (suc (off_up s)) x (items_up s)) → right ≡ inner_words (Grows.right_part 8 (suc (off_up s)) x (items_up s)) →
+      pub next_climb : (m left right : List ℕ) → left ≡ inner_words (Grows.left_part 8 (suc (off_up s)) x (items_up s)) → right ≡ inner_words (Grows.right_part 8 (suc (off_up s)) x (items_up s)) →
           m ≡ Grows.cut_words ws t (get_or ns (level - 1) 0) left right → Grows.Climb (cut_scene s x) m t tree ns ps (level - 1)
-      next-climb m left right l r f = record {
-        under = cut-under ws t tree ns ps (level - 1) (up_scene s) v.above some-free (Grows.num_at (row_up s) (par_up s)) v.low v.high apart
+      next_climb m left right l r f = record {
+        under = cut_under ws t tree ns ps (level - 1) (up_scene s) v.above some-free (Grows.num_at (row_up s) (par_up s)) v.low v.high apart
             (inner_words (Grows.left_part 8 (suc (off_up s)) x (items_up s))) (inner_words (Grows.right_part 8 (suc (off_up s)) x (items_up s)))
             (Spelling.inner_length (Grows.left_part 8 (suc (off_up s)) x (items_up s))) (Spelling.inner_length (Grows.right_part 8 (suc (off_up s)) x (items_up s))) m (f ∙ rw (l, r, v.node));
         enough = still-enough;
       }
 
-      pub cut-done : (key rhs : ℕ) (e : List ℕ) → key ≡ front (Grows.right_part 8 (suc (off_up s)) x (items_up s)) → rhs ≡ get_or s.free 0 0 →
+      pub cut_done : (key rhs : ℕ) (e : List ℕ) → key ≡ front (Grows.right_part 8 (suc (off_up s)) x (items_up s)) → rhs ≡ get_or s.free 0 0 →
           e ≡ Grows.climbed (cut_scene s x) tree (key, rhs) → e ≡ Grows.climbed s tree x
-      cut-done key rhs e k r f = f ∙ rw (k, r) (climbed-full s.roots s.nodes s.store s.free s.row s.rows s.at x some-rows q)
+      cut_done key rhs e k r f = f ∙ rw (k, r) (climbed-full s.roots s.nodes s.store s.free s.row s.rows s.at x some-rows q)
 
 -- What the calls of the code ask, and what they leave
 module _ (ws : List ℕ) (t tree : ℕ) (ns ps : List ℕ) (level : ℕ) (b : 1 ≤ level) (w : List ℕ) (e : w ≡ block ws t (get_or ns (level - 1) 0)) where
@@ -148,15 +148,15 @@ module _ (ws : List ℕ) (t tree : ℕ) (ns ps : List ℕ) (level : ℕ) (b : 1 
     seen_up = seen ws t tree ns ps s level b u
 
     is-inner : w ≡ inner_words (items_up s)
-    is-inner = e ∙ up-block ws t tree ns ps s level u seen_up
+    is-inner = e ∙ up_block ws t tree ns ps s level u seen_up
 
-    pub insert-asks : get_or w 0 0 < 23 → Inner w × (get_or w 0 0 < 23) × (get_or ps (level - 1) 0 < get_or w 0 0 - 15)
-    insert-asks h =
+    pub insert_asks : get_or w 0 0 < 23 → Inner w × (get_or w 0 0 < 23) × (get_or ps (level - 1) 0 < get_or w 0 0 - 15)
+    insert_asks h =
         let z : get_or w 0 0 ≡ 16 + (length (items_up s) - 1) = ap (λ (v : List ℕ). get_or v 0 0) is-inner in
         (rw is-inner (inner_is (items_up s) (omega (arith, seen_up.inside)) seen_up.few), h, rw seen_up.place (omega (arith, seen_up.inside)))
 
-    pub split-asks : 23 ≤ get_or w 0 0 → Inner w × (get_or w 0 0 ≡ 23) × (get_or ps (level - 1) 0 < 8)
-    split-asks h =
+    pub split_asks : 23 ≤ get_or w 0 0 → Inner w × (get_or w 0 0 ≡ 23) × (get_or ps (level - 1) 0 < 8)
+    split_asks h =
         let z : get_or w 0 0 ≡ 16 + (length (items_up s) - 1) = ap (λ (v : List ℕ). get_or v 0 0) is-inner in (
           rw is-inner (inner_is (items_up s) (omega (arith, seen_up.inside)) seen_up.few),
           omega (arith, seen_up.few, seen_up.inside),
@@ -170,7 +170,7 @@ module _ (ws : List ℕ) (t tree : ℕ) (ns ps : List ℕ) (level : ℕ) (b : 1 
     here = seen_up s g.under
 
     is-full : full 8 (par_up s) (row_up s) ≡ true
-    is-full = up-full ws t tree ns ps s level g.under here (rw e at h)
+    is-full = up_full ws t tree ns ps s level g.under here (rw e at h)
 
     left_is : r.left ≡ inner_words (Grows.left_part 8 (suc (off_up s)) (key, node) (items_up s))
     left_is =
@@ -187,21 +187,21 @@ module _ (ws : List ℕ) (t tree : ℕ) (ns ps : List ℕ) (level : ℕ) (b : 1 
         ap (λ (o : SplitOff). o.key) q ∙
         rw (is-inner s g.under, here.place) (ap front (right_half (key, node) (items_up s) (off_up s) (omega (arith, here.inside)) here.few))
 
-    pub cuts-asks : Grows.AskCut ws t (get_or ns (level - 1) 0)
-    cuts-asks = record {
+    pub cuts_asks : Grows.AskCut ws t (get_or ns (level - 1) 0)
+    cuts_asks = record {
       takes = takes ws t tree ns ps level s g.under (some-free ws t tree ns ps s level b (key, node) g is-full);
-      node = up-placed ws t tree ns ps s level g.under here;
+      node = up_placed ws t tree ns ps s level g.under here;
     }
 
     module _ (m : List ℕ) (f : m ≡ Grows.cut_words ws t (get_or ns (level - 1) 0) r.left r.right) where
-      pub climb-asks : Grows.Climb (cut_scene s (key, node)) m t tree ns ps (level - 1)
-      climb-asks = next-climb ws t tree ns ps s level b (key, node) g is-full m r.left r.right left_is right_is f
+      pub climb_asks : Grows.Climb (cut_scene s (key, node)) m t tree ns ps (level - 1)
+      climb_asks = next_climb ws t tree ns ps s level b (key, node) g is-full m r.left r.right left_is right_is f
 
-      pub climb-done : (rhs : ℕ) (o : List ℕ) → rhs ≡ top_node ws t → ((s' : Grows.Scene) → Grows.Climb s' m t tree ns ps (level - 1) → o ≡ Grows.climbed s' tree (r.key, rhs)) →
+      pub climb_done : (rhs : ℕ) (o : List ℕ) → rhs ≡ top_node ws t → ((s' : Grows.Scene) → Grows.Climb s' m t tree ns ps (level - 1) → o ≡ Grows.climbed s' tree (r.key, rhs)) →
           o ≡ Grows.climbed s tree (key, node)
-      climb-done rhs o p ens =
-          cut-done ws t tree ns ps s level b (key, node) g is-full r.key rhs o key-is (p ∙ top_is ws t tree ns ps level s g.under (some-free ws t tree ns ps s level b (key, node) g is-full))
-          (ens (cut_scene s (key, node)) climb-asks)
+      climb_done rhs o p ens =
+          cut_done ws t tree ns ps s level b (key, node) g is-full r.key rhs o key-is (p ∙ top_is ws t tree ns ps level s g.under (some-free ws t tree ns ps s level b (key, node) g is-full))
+          (ens (cut_scene s (key, node)) climb_asks)
 
 -- a climb's path alone
 pub climbs-under : (ws : List ℕ) (t tree : ℕ) (ns ps : List ℕ) (level : ℕ) → Grows.Climbs ws t tree ns ps level → Grows.Unders ws t tree ns ps level

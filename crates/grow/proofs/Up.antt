@@ -1,5 +1,5 @@
 -- PROOFS. One node more in a row: the store of the rows above, upward, and that it holds the rows of the definition
-use mathlib.Core.Path.{◌≡◌, refl, sym, ap, ◌∙◌}
+use mathlib.Core.Path.{subst, ◌≡◌, refl, sym, ap, ◌∙◌}
 use mathlib.Core.List.{List, [], ◌∷◌}
 use mathlib.Core.Bool.{true, false}
 use Prim.Native.Nat.{ℕ, zero, suc, ◌+◌, ◌≤◌, ◌<◌}
@@ -7,6 +7,7 @@ use native.Mathlib.Omega.{arith}
 use lib.ListN.{length, take, drop, get_or}
 use lib.Dec.{eqb}
 use borrow.Author.Tests.{eq-eqb}
+use Rattle.forest.specs.Sizes.{inner_cap}
 use Rattle.forest.specs.Lists.{insert_at, sum, once, count, parent, offset}
 use Rattle.forest.specs.Pairs.{Item}
 use Rattle.forest.specs.Rows.{Row, node, front, nums, sizes, joined, line, items_at, keeps, put_row, full, rekey, refresh, Tower}
@@ -207,7 +208,9 @@ up_holds f (m ∷ []) R' [] r zero x new st w b e q k o s = rw (e, q) ((put_same
 up_holds f (m ∷ []) R' [] r (suc i) x new st w b e q k o s = absurd (omega arith)
 up_holds f R R' (S ∷ Ss) r i x [] st w b e q k o s = elim (test (full 8 (parent (sizes S) i) S)) [
   | is c ↦ absurd (let z = simp c at k in omega arith)
-  | isnt c ↦ simp c (room_holds f R R' S Ss i x 0 w b e st s c (λ y. omega (arith, Mem.parts y S Ss, o y)))
+  | isnt c ↦
+      let v : up_store r i x [] (S ∷ Ss) st ≡ put st (num_at S (parent (sizes S) i)) (inner_words (insert_at (suc (offset (sizes S) i)) x (items_at S (parent (sizes S) i)))) = simp c refl in
+      subst (λ (z : Store). HoldsUp z (refresh R' (grow_up i [] (S ∷ Ss)))) (sym v) (simp c (room_holds f R R' S Ss i x 0 w b e st s c (λ y. omega (arith, Mem.parts y S Ss, o y))))
 ]
 up_holds f R R' (S ∷ Ss) r i x (a ∷ new) st w b e q k o s = elim (test (full 8 (parent (sizes S) i) S)) [
   | is c ↦
@@ -215,15 +218,21 @@ up_holds f R R' (S ∷ Ss) r i x (a ∷ new) st w b e q k o s = elim (test (full
       let each : (y : ℕ) → count y (nums S) + count y (numbers Ss) + once (eqb y a) ≤ 1 = λ y. omega (arith, Mem.parts y S Ss, o y) in
       let l = TowerLaws.tower_levels R (S ∷ Ss) w in
       let in_row = par_in f R R' S Ss i x a w b e in
-      simp c (rw (seated f R R' S Ss i x a w b e) (
+      let v : up_store r i x (a ∷ new) (S ∷ Ss) st ≡ up_store r (parent (sizes S) i)
+      (front (right_part inner_cap (suc (offset (sizes S) i)) x (items_at S (parent (sizes S) i))), a) new Ss
+      (cut_store inner_words (num_at S (parent (sizes S) i)) (left_part inner_cap (suc (offset (sizes S) i)) x (items_at S (parent (sizes S) i)))
+      a (right_part inner_cap (suc (offset (sizes S) i)) x (items_at S (parent (sizes S) i))) st) = simp c refl in
+      subst (λ (z : Store). HoldsUp z (refresh R' (grow_up i (a ∷ new) (S ∷ Ss)))) (sym v) (simp c (rw (seated f R R' S Ss i x a w b e) (
         Mem.holds_keeps inner_words (cut f R R' S Ss i x a w b e st s) _ (Lead.lead_row f (T f R R' S Ss i x a w b e st s))
             (λ y g. up_keeps r (parent (sizes S) i) _ new (length S) Ss _ in_row l.3 (omega arith) y
             (omega (arith, count-take y (need_up (parent (sizes S) i) Ss) new, Mem.parts y S Ss, o y, full-counts f R R' S Ss i x a w b e st s c y)))
             (full_holds f R R' S Ss i x a w b e st s c each),
         up_holds f S (Lead.lead_row f (T f R R' S Ss i x a w b e st s)) Ss r (parent (sizes S) i) _ new _ w.3 in_row
             (full-line f R R' S Ss i x a w b e c) q (omega arith) (λ y. omega (arith, Mem.parts y S Ss, o y)) (full_above f R R' S Ss i x a w b e st s each),
-      ))
-  | isnt c ↦ simp c (room_holds f R R' S Ss i x a w b e st s c (λ y. omega (arith, Mem.parts y S Ss, o y)))
+      )))
+  | isnt c ↦
+      let v : up_store r i x (a ∷ new) (S ∷ Ss) st ≡ put st (num_at S (parent (sizes S) i)) (inner_words (insert_at (suc (offset (sizes S) i)) x (items_at S (parent (sizes S) i)))) = simp c refl in
+      subst (λ (z : Store). HoldsUp z (refresh R' (grow_up i (a ∷ new) (S ∷ Ss)))) (sym v) (simp c (room_holds f R R' S Ss i x a w b e st s c (λ y. omega (arith, Mem.parts y S Ss, o y))))
 ]
 
 -- and the root

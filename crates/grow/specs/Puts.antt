@@ -1,5 +1,5 @@
 -- DEFINITIONS. What putting a key promises: where it is there already, where it is absent, and of a whole pool
-use Rattle.std.specs.Prelude.{◌≡◌, List, Bool, true, false, cond, ℕ, ◌+◌, ◌-◌, ◌≤◌, ◌<◌, length, get_or, set, ltb, eqb}
+use Rattle.std.specs.Prelude.{◌≡◌, List, Bool, true, false, cond, ℕ, ◌+◌, ◌≤◌, ◌<◌, length, get_or, set, ltb, eqb}
 use Rattle.forest.specs.Sizes.{leaf_least}
 use Rattle.forest.specs.Lists.{insert_at}
 use Rattle.forest.specs.Pairs.{Item}

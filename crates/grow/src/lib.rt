@@ -1,4 +1,6 @@
 // Putting an entry in, as the crate's path.rs has it: the need counted from the path, and then insertion with nodes cut upward.
+#![tactic(auto)]
+
 ghost use Rattle.std.specs.Prelude.{◌≡◌, ℕ, ◌+◌, ◌-◌, ◌≤◌, ◌<◌, length};
 ghost use Rattle.forest.specs.Trees.{need_up};
 ghost use Rattle.pool.specs.Stores.{top_node};

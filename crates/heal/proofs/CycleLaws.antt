@@ -3,7 +3,7 @@ use mathlib.Core.Path.{◌≡◌, refl, sym, ap, ◌∙◌, subst}
 use mathlib.Core.List.{List, [], ◌∷◌, ◌++◌}
 use mathlib.Core.Bool.{Bool, true, false, ◌&&◌}
 use mathlib.Core.Option.{Option, some}
-use Prim.Native.Nat.{ℕ, zero, suc, ◌+◌, ◌-◌, ◌*◌, ◌≤◌, ◌<◌}
+use Prim.Native.Nat.{ℕ, zero, suc, ◌-◌, ◌*◌, ◌≤◌, ◌<◌}
 use native.Mathlib.Omega.{arith}
 use lib.ListN.{length, get_or}
 use lib.Dec.{ltb, leb, eqb}
@@ -61,29 +61,29 @@ module _ (k : Kind) where
   ]
 
   module _ {ws : List ℕ} {t : ℕ} {c : Cursor} {status : Removed} {level : ℕ} where
-    pub heals-0 : status ≡ Healthy → Mends k ws ws t c c status level
-    heals-0 q = record {
+    pub heals_0 : status ≡ Healthy → Mends k ws ws t c c status level
+    heals_0 q = record {
       run = λ m e sp.
           statuses level m.s (Spelt ws t c (moved m (healed k level m.s)))
           (λ z h. rw h sp) (λ z h. absurd (clash (cc))) (λ z y h. absurd (clash (cc))) (λ z y h. absurd (clash (cc)));
     }
 
-    pub heals-1 : {r : Cursor} → status ≡ Rightmost → Leaves (next_node level) ws ws t c r → Mends k ws ws t c r status level
-    heals-1 {r} q f = record {
+    pub heals_1 : {r : Cursor} → status ≡ Rightmost → Leaves (next_node level) ws ws t c r → Mends k ws ws t c r status level
+    heals_1 {r} q f = record {
       run = λ m e sp.
           statuses level m.s (Spelt ws t r (moved m (healed k level m.s)))
           (λ z h. absurd (clash (cc))) (λ z h. rw h (f.run m sp)) (λ z y h. absurd (clash (cc))) (λ z y h. absurd (clash (cc)));
     }
 
-    pub heals-2 : {vs : List ℕ} {r : Cursor} → status ≡ Underflow → Leaves (under k level) ws vs t c r → Mends k ws vs t c r status level
-    heals-2 {vs} {r} q f = record {
+    pub heals_2 : {vs : List ℕ} {r : Cursor} → status ≡ Underflow → Leaves (under k level) ws vs t c r → Mends k ws vs t c r status level
+    heals_2 {vs} {r} q f = record {
       run = λ m e sp.
           statuses level m.s (Spelt vs t r (moved m (healed k level m.s)))
           (λ z h. absurd (clash (cc))) (λ z h. absurd (clash (cc))) (λ z y h. rw h (f.run m sp)) (λ z y h. absurd (clash (cc)));
     }
 
-    pub heals-3 : {vs : List ℕ} {r : Cursor} → status ≡ Empty → Leaves (emptied level) ws vs t c r → Mends k ws vs t c r status level
-    heals-3 {vs} {r} q f = record {
+    pub heals_3 : {vs : List ℕ} {r : Cursor} → status ≡ Empty → Leaves (emptied level) ws vs t c r → Mends k ws vs t c r status level
+    heals_3 {vs} {r} q f = record {
       run = λ m e sp.
           statuses level m.s (Spelt vs t r (moved m (healed k level m.s)))
           (λ z h. absurd (clash (cc))) (λ z h. absurd (clash (cc))) (λ z y h. absurd (clash (cc))) (λ z y h. rw h (f.run m sp));
@@ -91,8 +91,8 @@ module _ (k : Kind) where
 
   module _ (law : Lawful k.ops k.words k.cap k.low) {ws : List ℕ} {t : ℕ} {c : Cursor} {status : Removed} {level : ℕ} (a : AskHeal k ws t c status level) where
     -- the way above a wounded node, also once nodes of its row have other words
-    pub heal-way-put : {vs : List ℕ} (st' : Store) → HealMem.Keeps a.mem.s.st st' (nums a.ready.row) → Spelt vs t c (moved a.mem (stored a.mem.s st')) → Route vs t c level
-    heal-way-put {vs} st' keeps sp = elim a.ready.left [
+    pub heal_way_put : {vs : List ℕ} (st' : Store) → HealMem.Keeps a.mem.s.st st' (nums a.ready.row) → Spelt vs t c (moved a.mem (stored a.mem.s st')) → Route vs t c level
+    heal_way_put {vs} st' keeps sp = elim a.ready.left [
       | alive more st row ↦ record {
         deep = a.deep;
         mem = moved a.mem (stored a.mem.s st');
@@ -133,15 +133,15 @@ module _ (k : Kind) where
             HealMem.up_apart a.mem.s.st st' (nums a.ready.row) a.ready.rows keeps
             (HealMem.once-append (nums a.ready.row) (numbers a.ready.rows) (once_row law a.mem.count level a.mem.s a.ready)) a.ready.up
 
-    pub heal-way : Route ws t c level
-    heal-way = heal-way-put a.mem.s.st (λ x h. refl) a.spelt
+    pub heal_way : Route ws t c level
+    heal_way = heal_way_put a.mem.s.st (λ x h. refl) a.spelt
 
     -- heal_level's calls
-    pub ask-under : status ≡ Underflow → AskHeal k ws t c Underflow level
-    ask-under q = record { deep = a.deep; mem = a.mem; spelt = a.spelt; ready = a.ready; says = sym q ∙ a.says }
+    pub ask_under : status ≡ Underflow → AskHeal k ws t c Underflow level
+    ask_under q = record { deep = a.deep; mem = a.mem; spelt = a.spelt; ready = a.ready; says = sym q ∙ a.says }
 
-    pub ask-none : status ≡ Empty → AskEmpty ws t c level
-    ask-none q =
+    pub ask_none : status ≡ Empty → AskEmpty ws t c level
+    ask_none q =
         statuses level a.mem.s (AskEmpty ws t c level)
         (λ z h. absurd (clash (cc a.says))) (λ z h. absurd (clash (cc a.says))) (λ z y h. absurd (clash (cc a.says)))
         (λ z y h. record { deep = a.deep; mem = a.mem; spelt = a.spelt; ready = ready_none law a.mem.count level a.mem.s a.ready y })
@@ -165,8 +165,8 @@ module _ (k : Kind) where
       right : (m : Mem) → Spelt ws t c m → right_sibling m.s.st m.s.ns m.s.ps level ≡ some (key, node)
       right m sp = sym (f.run m sp) ∙ ap near_of e
 
-      pub ask-join : AskHeal k ws t c Underflow level → AskJoin k ws t c level key node
-      ask-join a = record { heal = a; finds = subst (Finds ws t c level) e f }
+      pub ask_join : AskHeal k ws t c Underflow level → AskJoin k ws t c level key node
+      ask_join a = record { heal = a; finds = subst (Finds ws t c level) e f }
 
       pub under-share : {vs : List ℕ} {all : Bool} → Joined k ws vs t c level all → all ≡ false → Leaves (under k level) ws vs t c c
       unfolding under
@@ -177,17 +177,17 @@ module _ (k : Kind) where
             (simp ft (j.share_some m (key, node) sp (right m sp) q));
       }
 
-      pub under-merge : {vs xs : List ℕ} {r : Cursor} {all : Bool} → Joined k ws vs t c level all → all ≡ true → Leaves (emptied level) vs xs t c r → Leaves (under k level) ws xs t c r
+      pub under_merge : {vs xs : List ℕ} {r : Cursor} {all : Bool} → Joined k ws vs t c level all → all ≡ true → Leaves (emptied level) vs xs t c r → Leaves (under k level) ws xs t c r
       unfolding under emptied
-      under-merge {vs} {xs} {r} j q g = record {
+      under_merge {vs} {xs} {r} j q g = record {
         run = λ m sp.
             let ft : fits k m.s level (key, node) ≡ true = sym (j.all_is m (key, node) sp (right m sp)) ∙ q in
             subst (λ (x : Option Item). Spelt xs t r (moved m (under_with k.ops k.cap x (empty_node inner_ops level) level m.s))) (sym (right m sp))
             (simp ft (g.run (moved m (gathered k m.s level (key, node))) (j.gather_all m (key, node) sp (right m sp) q)));
       }
 
-      pub ask-merge : (law : Lawful k.ops k.words k.cap k.low) {vs : List ℕ} {all : Bool} → AskHeal k ws t c Underflow level → Joined k ws vs t c level all → all ≡ true → AskEmpty vs t c level
-      ask-merge law a j q =
+      pub ask_merge : (law : Lawful k.ops k.words k.cap k.low) {vs : List ℕ} {all : Bool} → AskHeal k ws t c Underflow level → Joined k ws vs t c level all → all ≡ true → AskEmpty vs t c level
+      ask_merge law a j q =
           let ft : fits k a.mem.s level (key, node) ≡ true = sym (j.all_is a.mem (key, node) a.spelt (right a.mem a.spelt)) ∙ q in
           record {
             deep = a.deep;

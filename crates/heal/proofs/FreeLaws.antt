@@ -1,7 +1,7 @@
 -- PROOFS. Freeing a node: the words afterwards, and why the stack has room
 use mathlib.Core.Path.{◌≡◌, refl, sym, ap, ◌∙◌}
 use mathlib.Core.List.{List, ◌∷◌}
-use Prim.Native.Nat.{ℕ, ◌-◌, ◌≤◌, ◌<◌}
+use Prim.Native.Nat.{ℕ, ◌≤◌, ◌<◌}
 use native.Mathlib.Omega.{arith}
 use lib.ListN.{length}
 use Rattle.forest.specs.Lists.{count}
@@ -9,7 +9,7 @@ use Rattle.forest.specs.declared.Cursor.{Cursor}
 use Rattle.forest.proofs.CountLaws.{in_range, few_numbers}
 use Rattle.pool.specs.Stores.{spell, freed_words, no_words, free_count, Freeable}
 use Rattle.pool.proofs.Bridges.{spell-frees}
-use Rattle.pool.proofs.Stacks.{spell-freeable, spell-freed}
+use Rattle.pool.proofs.Stacks.{spell_freeable, spell-freed}
 use Rattle.crit.specs.Asks.{Mem, moved, Spelt}
 use Rattle.heal.specs.Steps.{free_node}
 use Rattle.heal.specs.Wounds.{Within}
@@ -18,7 +18,7 @@ use Rattle.crit.proofs.SpeltLaws.{put_sixteen, spelt_as}
 -- a node goes to the stack, which has room for it
 module _ {ws : List ℕ} {t : ℕ} {c : Cursor} {m : Mem} (sp : Spelt ws t c m) (n : ℕ) (lo : 1 ≤ n) (hi : n ≤ m.count) (room : length m.s.free < m.count) where
   pub spelt_freeable : Freeable ws t n
-  spelt_freeable = rw (sp.words, sp.trees) (spell-freeable m.roots m.count m.s.st m.s.free sp.sixteen room n lo hi sp.few)
+  spelt_freeable = rw (sp.words, sp.trees) (spell_freeable m.roots m.count m.s.st m.s.free sp.sixteen room n lo hi sp.few)
 
   pub spelt_freed : Spelt (freed_words ws t n) t c (moved m (free_node m.s n))
   spelt_freed =

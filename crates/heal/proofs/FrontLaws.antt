@@ -2,7 +2,7 @@
 use mathlib.Core.Path.{◌≡◌, sym, ap, ◌∙◌, subst}
 use mathlib.Core.List.{List, ◌++◌}
 use mathlib.Core.Bool.{true, false}
-use Prim.Native.Nat.{ℕ, ◌+◌, ◌-◌, ◌≤◌, ◌<◌}
+use Prim.Native.Nat.{ℕ, ◌-◌, ◌≤◌, ◌<◌}
 use native.Mathlib.Omega.{arith}
 use lib.ListN.{length, get_or}
 use lib.Dec.{eqb}
@@ -19,8 +19,8 @@ use Rattle.crit.specs.Asks.{Mem, moved, Spelt, Leaves}
 use Rattle.heal.specs.Steps.{leaf_ops, inner_ops, leaf_front, fronted, parent_cut, taken}
 use Rattle.heal.specs.Wounds.{Wounded}
 use Rattle.heal.specs.Cycle.{Kind, leaf_kind, left, standing, healed, AskFront, AskHeal, Cuts, Mends, AskPair}
-use Rattle.crit.proofs.SpeltLaws.{spelt-placed, spelt_level, same_count}
-use Rattle.heal.proofs.HealTree.{front-wounded, front-words, front-path}
+use Rattle.crit.proofs.SpeltLaws.{spelt_placed, spelt_level, same_count}
+use Rattle.heal.proofs.HealTree.{front_wounded, front_words, front_path}
 use Rattle.heal.proofs.HealReady.{within_once}
 use Rattle.heal.proofs.InnerOps.{inner_law}
 use Rattle.heal.proofs.LeafOps.{leaf_front_lem}
@@ -29,21 +29,21 @@ use Rattle.heal.proofs.LeafLaws.{leaf_law, leaf_named}
 -- update_front
 module _ {ws : List ℕ} {t : ℕ} {c : Cursor} {level : ℕ} (a : AskFront ws t c level) where
   pub front_placed : Placed ws t (get_or c.nodes level 0)
-  front_placed = spelt-placed a.way.spelt (get_or c.nodes level 0) a.some a.few
+  front_placed = spelt_placed a.way.spelt (get_or c.nodes level 0) a.some a.few
 
   front-block : (m : Mem) → Spelt ws t c m → block ws t (get_or c.nodes level 0) ≡ m.s.st (m.s.ns level)
   front-block m sp = spelt_level sp level a.way.deep a.some (rw (← (same_count a.way.spelt sp)) a.few)
 
   module _ (w : List ℕ) (e : w ≡ block ws t (get_or c.nodes level 0)) where
-    pub fronts-none : get_or w 0 0 ≤ 32 → Leaves (λ s. fronted leaf_ops 7 inner_ops leaf_front s level) ws ws t c c
-    fronts-none h = record {
+    pub fronts_none : get_or w 0 0 ≤ 32 → Leaves (λ s. fronted leaf_ops 7 inner_ops leaf_front s level) ws ws t c c
+    fronts_none h = record {
       run = λ m sp.
           let z : eqb (get_or (m.s.st (m.s.ns level)) 0 0 - 32) 0 ≡ true = rw (← (e ∙ front-block m sp)) (eq-eqb (get_or w 0 0 - 32) 0 (omega arith)) in
           simp z sp;
     }
 
-    pub fronts-later : 32 < get_or w 0 0 → (get_or c.places level 0 ≡ 0 → ⊥) → Leaves (λ s. fronted leaf_ops 7 inner_ops leaf_front s level) ws ws t c c
-    fronts-later h p = record {
+    pub fronts_later : 32 < get_or w 0 0 → (get_or c.places level 0 ≡ 0 → ⊥) → Leaves (λ s. fronted leaf_ops 7 inner_ops leaf_front s level) ws ws t c c
+    fronts_later h p = record {
       run = λ m sp.
           let z : eqb (get_or (m.s.st (m.s.ns level)) 0 0 - 32) 0 ≡ false = rw (← (e ∙ front-block m sp)) (ne_eqb (get_or w 0 0 - 32) 0 (omega arith)) in
           let y : eqb (m.s.ps level) 0 ≡ false = ne_eqb (m.s.ps level) 0 (λ q. p (sp.places level a.way.deep ∙ q)) in
@@ -92,15 +92,15 @@ module _ {ws vs us : List ℕ} {t : ℕ} {c : Cursor} {level : ℕ} {status : Re
 
   ready : Wounded leaf_words 7 3 a.mem.count level s_f
   ready = at_level (λ l. Wounded leaf_words 7 3 a.mem.count l (fronted leaf_ops 7 inner_ops leaf_front (parent_cut leaf_ops s l) l))
-      (front-wounded leaf_law inner_law leaf_front leaf_front_lem a.row a.rows a.at s a.inside a.fill a.stacked once a.holds a.up a.place a.path a.two a.mem.count a.within)
+      (front_wounded leaf_law inner_law leaf_front leaf_front_lem a.row a.rows a.at s a.inside a.fill a.stacked once a.holds a.up a.place a.path a.two a.mem.count a.within)
 
   same_words : s_f.st (s.ns level) ≡ s_b.st (s.ns level)
   same_words = at_level (λ l. (fronted leaf_ops 7 inner_ops leaf_front (parent_cut leaf_ops s l) l).st (s.ns l) ≡ (parent_cut leaf_ops s l).st (s.ns l))
-      (front-words leaf_law inner_law leaf_front leaf_front_lem a.row a.rows a.at s a.inside a.fill a.stacked once a.holds a.up a.place a.path)
+      (front_words leaf_law inner_law leaf_front leaf_front_lem a.row a.rows a.at s a.inside a.fill a.stacked once a.holds a.up a.place a.path)
 
   same_path_lem : (s_f.ns ≡ s.ns) × (s_f.ps ≡ s.ps)
   same_path_lem = at_level (λ l. ((fronted leaf_ops 7 inner_ops leaf_front (parent_cut leaf_ops s l) l).ns ≡ s.ns) × ((fronted leaf_ops 7 inner_ops leaf_front (parent_cut leaf_ops s l) l).ps ≡ s.ps))
-      (front-path leaf_law inner_law leaf_front leaf_front_lem a.row a.rows a.at s a.inside a.fill a.stacked once a.holds a.up a.place a.path)
+      (front_path leaf_law inner_law leaf_front leaf_front_lem a.row a.rows a.at s a.inside a.fill a.stacked once a.holds a.up a.place a.path)
 
   says : status ≡ standing leaf_kind s_f level
   says =

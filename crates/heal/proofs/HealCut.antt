@@ -1,7 +1,7 @@
 -- PROOFS. A row cut at position i: the items left, the sizes, the path; and a node with one item, which is the last of its row
 use mathlib.Core.Path.{◌≡◌, sym, ap, ◌∙◌}
 use mathlib.Core.List.{List, [], ◌∷◌}
-use Prim.Native.Nat.{ℕ, suc, ◌-◌, ◌≤◌, ◌<◌}
+use Prim.Native.Nat.{ℕ, suc, ◌≤◌, ◌<◌}
 use native.Mathlib.Omega.{arith}
 use lib.ListN.{length, get_or, length-map}
 use lib.Dec.{ltb}
@@ -49,19 +49,19 @@ module _ (i : ℕ) (S : Row) (b : i < sum (sizes S)) where
       omega (arith, sum-sizes (drop_row cap (parent (sizes S) i) (offset (sizes S) i) S), sum-sizes S, ap length j, length-remove_at i (joined S) (omega (arith, sum-sizes S)))
 
   module _ (low cap : ℕ) (two : 2 ≤ low) (fill : Fill low cap (sizes S)) (one : length (items_at S (parent (sizes S) i)) ≡ 1) where
-    pub alone-last : suc (parent (sizes S) i) ≡ length S
-    alone-last = elim (test (ltb (suc (parent (sizes S) i)) (length S))) [
+    pub alone_last : suc (parent (sizes S) i) ≡ length S
+    alone_last = elim (test (ltb (suc (parent (sizes S) i)) (length S))) [
       | is e ↦
           let y = fill_inside low cap (sizes S) (parent (sizes S) i) fill (rw (length-map S size) (ltb-true (suc (parent (sizes S) i)) (length S) e)) in
           absurd (omega (arith, length-items S (parent (sizes S) i)))
       | isnt e ↦ let z = ltb-false (suc (parent (sizes S) i)) (length S) e in omega (arith, parent_there S i b)
     ]
 
-    pub alone-gap : Gap (remove_at (parent (sizes S) i) S) S (parent (sizes S) i)
-    alone-gap = record {
+    pub alone_gap : Gap (remove_at (parent (sizes S) i) S) S (parent (sizes S) i)
+    alone_gap = record {
       alike = HealStack.alike_same (sym (HealRows.line-remove_at (parent (sizes S) i) S));
-      fronts = λ a c. absurd (omega (arith, alone-last));
+      fronts = λ a c. absurd (omega (arith, alone_last));
     }
 
-    pub alone-two : 2 ≤ sum (sizes S) → 2 ≤ length S
-    alone-two more = rw (length-map S size) at (two_groups (sizes S) i (alone-last ∙ sym (length-map S size)) (sym (length-items S (parent (sizes S) i)) ∙ one) more)
+    pub alone_two : 2 ≤ sum (sizes S) → 2 ≤ length S
+    alone_two more = rw (length-map S size) at (two_groups (sizes S) i (alone_last ∙ sym (length-map S size)) (sym (length-items S (parent (sizes S) i)) ∙ one) more)

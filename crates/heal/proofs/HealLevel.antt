@@ -3,12 +3,12 @@ use mathlib.Core.Path.{◌≡◌, refl, sym, ap, ◌∙◌}
 use mathlib.Core.List.{List, ◌∷◌, ◌++◌}
 use mathlib.Core.Bool.{true, false}
 use mathlib.Core.Option.{none, some}
-use Prim.Native.Nat.{ℕ, suc, ◌+◌, ◌-◌, ◌*◌, ◌≤◌, ◌<◌}
+use Prim.Native.Nat.{ℕ, suc, ◌+◌, ◌*◌, ◌≤◌, ◌<◌}
 use native.Mathlib.Omega.{arith}
 use lib.ListN.{length, take, drop, get_or, length-append, length-map, length-take}
 use lib.Dec.{ltb, eqb, leb}
 use borrow.Author.Tests.{lt-ltb, le-ltb, ltb-true, ltb-false, eqb-true, eqb-false, eq-eqb, ne_eqb, leb-true, leb-false}
-use Rattle.forest.specs.Lists.{remove_at, sum, once, count, parent, offset}
+use Rattle.forest.specs.Lists.{remove_at, sum, count, parent, offset}
 use Rattle.forest.specs.Pairs.{Item}
 use Rattle.forest.specs.Rows.{Row, size, front, nums, sizes, line, items_at, Fill, drop_row}
 use Rattle.forest.specs.Trees.{numbers, lost}
@@ -130,8 +130,8 @@ module _ {enc : List Item → List ℕ} {cap low : ℕ} {o : Ops} (law : Lawful 
     ys-length : length ys ≡ get_or (sizes S) (suc (parent (sizes S) i)) 0
     ys-length = ap length (HealRows.upd-next (parent (sizes S) i) (remove_at (offset (sizes S) i)) S) ∙ length-items S (suc (parent (sizes S) i))
 
-    here-words : s.st (s.ns (length Ss)) ≡ enc xs
-    here-words = ap s.st (HealPath.path_node C (parent (sizes S) i) Ss s.ns s.ps path_c) ∙ HealMem.holds_at enc s.st C (parent (sizes S) i) (omega (arith, length-C, par_in)) row
+    here_words : s.st (s.ns (length Ss)) ≡ enc xs
+    here_words = ap s.st (HealPath.path_node C (parent (sizes S) i) Ss s.ns s.ps path_c) ∙ HealMem.holds_at enc s.st C (parent (sizes S) i) (omega (arith, length-C, par_in)) row
 
     module _ (e : suc (parent (sizes S) i) < length S) where
       next_c : suc (parent (sizes S) i) < length C
@@ -197,13 +197,13 @@ module _ {enc : List Item → List ℕ} {cap low : ℕ} {o : Ops} (law : Lawful 
             rows = HealStack.set_key (suc (parent (sizes S) i)) k Ss;
             shape = HealStack.set_key_shape (suc (parent (sizes S) i)) k Ss;
             stacked = HealStack.set_key_stacked C1 M Ss (suc (parent (sizes S) i)) k n1 (HealStack.alike_same (sym (HealRows.upd-line (suc (parent (sizes S) i)) g C1))) stacked1;
-            row = HealStep.keyed-row enc C1 (parent (sizes S) i) Ss st1 s.ns s.ps stacked1 n1 once1 row1 up1 path1 w g refl k;
-            up = HealStep.keyed-up enc C1 (parent (sizes S) i) Ss st1 s.ns s.ps stacked1 n1 once1 row1 up1 path1 w g refl k;
+            row = HealStep.keyed_row enc C1 (parent (sizes S) i) Ss st1 s.ns s.ps stacked1 n1 once1 row1 up1 path1 w g refl k;
+            up = HealStep.keyed_up enc C1 (parent (sizes S) i) Ss st1 s.ns s.ps stacked1 n1 once1 row1 up1 path1 w g refl k;
             keeps = λ x c.
                 let c2 : count x (nums S) + count x (numbers Ss) ≡ 0 = rw (count-append x (nums S) (numbers Ss)) at c in
                 let c3 : count x (nums C) ≡ 0 = rw (HealRows.upd-nums (parent (sizes S) i) (remove_at (offset (sizes S) i)) S) (omega arith) in
                 let c4 : count x (nums C1) ≡ 0 = rw (HealRows.upd-nums (parent (sizes S) i) (λ _. take (HealMend.keep u) u) C) c3 in
-                HealStep.keyed-keeps enc C1 (parent (sizes S) i) Ss st1 s.ns s.ps stacked1 n1 once1 row1 up1 path1 w g refl k x (omega arith) ∙
+                HealStep.keyed_keeps enc C1 (parent (sizes S) i) Ss st1 s.ns s.ps stacked1 n1 once1 row1 up1 path1 w g refl k x (omega arith) ∙
                 HealStep.righted_keeps enc C1 (parent (sizes S) i) Ss st1 s.ns s.ps stacked1 n1 once1 row1 up1 path1 st1 w x c4 ∙ keeps1 x c3;
             zeros = λ x c d. absurd (let z = rw (HealMend.share-nums (parent (sizes S) i) u C ∙ HealRows.upd-nums (parent (sizes S) i) (remove_at (offset (sizes S) i)) S, HealNext.shape-numbers (HealStack.set_key_shape (suc (parent (sizes S) i)) k Ss)) at d in omega arith);
             free = refl;
@@ -277,9 +277,9 @@ module _ {enc : List Item → List ℕ} {cap low : ℕ} {o : Ops} (law : Lawful 
       shared-length = HealRows.upd-length (suc (parent (sizes S) i)) (λ _. drop (HealMend.keep u) u) C1 ∙ HealRows.upd-length (parent (sizes S) i) (λ _. take (HealMend.keep u) u) C ∙ length-C
 
     -- heal_level with an item left
-    pub heal-some : Mended enc (drop_row cap (parent (sizes S) i) (offset (sizes S) i) S) (lost (drop_row cap (parent (sizes S) i) (offset (sizes S) i) S) S) i S Ss s (heal_level o cap up (length Ss) s)
-    heal-some =
-        let en : o.entries (s.st (s.ns (length Ss))) ≡ left_over = ap o.entries here-words ∙ law.entries_is xs (omega (arith, xs-length)) ∙ xs-length in
+    pub heal_some : Mended enc (drop_row cap (parent (sizes S) i) (offset (sizes S) i) S) (lost (drop_row cap (parent (sizes S) i) (offset (sizes S) i) S) S) i S Ss s (heal_level o cap up (length Ss) s)
+    heal_some =
+        let en : o.entries (s.st (s.ns (length Ss))) ≡ left_over = ap o.entries here_words ∙ law.entries_is xs (omega (arith, xs-length)) ∙ xs-length in
         let same : lost C S ≡ false = le-ltb (length C) (length S) (omega (arith, length-C)) in
         elim (test (leb cap (2 * left_over))) [
           | is h ↦
@@ -332,7 +332,7 @@ module _ {enc : List Item → List ℕ} {cap low : ℕ} {o : Ops} (law : Lawful 
                       | is g ↦
                           let fits = leb-true (left_over + length ys) cap g in
                           let ga : o.gather (s.st (s.ns (length Ss))) (s.st (HealRows.num_at C (suc (parent (sizes S) i)))) (front ys) ≡ enc (xs ++ ys) =
-                          rw (here-words, right-words e) (law.gather_is xs ys xs-some ys-some (omega (arith, xs-length))) in
+                          rw (here_words, right-words e) (law.gather_is xs ys xs-some ys-some (omega (arith, xs-length))) in
                           let is-M : drop_row cap (parent (sizes S) i) (offset (sizes S) i) S ≡ MR e = drop_is ∙ HealMend.mend_merges cap (parent (sizes S) i) C (omega (arith, xs-length)) (next_c e) (omega (arith, xs-length)) in
                           let fewer : lost (MR e) S ≡ true = lt-ltb (length (MR e)) (length S) (merged-length e) in
                           let se : heal_level o cap up (length Ss) s ≡ up (stored s (st3 e)) = simp (en, h, nz, rs, en2, g, ga) in
@@ -342,11 +342,11 @@ module _ {enc : List Item → List ℕ} {cap low : ℕ} {o : Ops} (law : Lawful 
                           let big2 = leb-false (left_over + length ys) cap g in
                           let high : cap < length xs + length ys = omega (arith, xs-length) in
                           let le : o.left (s.st (s.ns (length Ss))) (s.st (HealRows.num_at C (suc (parent (sizes S) i)))) (front ys) ≡ enc (take (HealMend.keep (u e)) (u e)) =
-                          rw (here-words, right-words e) (law.left_is xs ys xs-some xs-few ys-few high) in
+                          rw (here_words, right-words e) (law.left_is xs ys xs-some xs-few ys-few high) in
                           let ri : o.right (s.st (s.ns (length Ss))) (s.st (HealRows.num_at C (suc (parent (sizes S) i)))) (front ys) ≡ enc (drop (HealMend.keep (u e)) (u e)) =
-                          rw (here-words, right-words e) (law.right_is xs ys xs-some xs-few ys-few high) in
+                          rw (here_words, right-words e) (law.right_is xs ys xs-some xs-few ys-few high) in
                           let mi : o.mid (s.st (s.ns (length Ss))) (s.st (HealRows.num_at C (suc (parent (sizes S) i)))) (front ys) ≡ front (drop (HealMend.keep (u e)) (u e)) =
-                          rw (here-words, right-words e) (law.mid_is xs ys xs-some xs-few ys-few high) in
+                          rw (here_words, right-words e) (law.mid_is xs ys xs-some xs-few ys-few high) in
                           let nm = HealPath.path_node C (parent (sizes S) i) Ss s.ns s.ps path_c in
                           let mate = HealRows.upd-num_at (suc (parent (sizes S) i)) (parent (sizes S) i) (λ _. take (HealMend.keep (u e)) (u e)) C in
                           let is-M : drop_row cap (parent (sizes S) i) (offset (sizes S) i) S ≡ HealMend.share_at (parent (sizes S) i) (u e) C = drop_is ∙ HealMend.mend_shares cap (parent (sizes S) i) C (omega (arith, xs-length)) (next_c e) high in

@@ -2,11 +2,11 @@
 use mathlib.Core.Path.{◌≡◌, refl, sym, ap, ◌∙◌}
 use mathlib.Core.List.{List, [], ◌∷◌, ◌++◌}
 use mathlib.Core.Bool.{true}
-use Prim.Native.Nat.{ℕ, suc, ◌+◌, ◌-◌, ◌*◌, ◌≤◌, ◌<◌}
+use Prim.Native.Nat.{ℕ, suc, ◌+◌, ◌*◌, ◌≤◌, ◌<◌}
 use native.Mathlib.Omega.{arith}
 use lib.ListN.{length, length-map}
 use borrow.Author.Tests.{lt-ltb, eq-eqb, lt-leb}
-use Rattle.forest.specs.Lists.{remove_at, sum, once, count, pad, parent, offset}
+use Rattle.forest.specs.Lists.{remove_at, sum, count, pad, parent, offset}
 use Rattle.forest.specs.Pairs.{Item}
 use Rattle.forest.specs.Rows.{Row, size, nums, sizes, items_at, Fill, drop_row}
 use Rattle.forest.specs.Trees.{numbers, lost}
@@ -18,9 +18,8 @@ use Rattle.crit.proofs.HealRows
 use Rattle.crit.proofs.HealStack
 use Rattle.crit.proofs.HealMem
 use Rattle.crit.proofs.HealPath
-use Rattle.crit.proofs.HealNext
 use Rattle.heal.proofs.HealMend
-use Rattle.heal.proofs.HealCut.{cut_length, cut_left, drop-sum, alone-last, alone-gap, alone-two}
+use Rattle.heal.proofs.HealCut.{cut_length, cut_left, drop-sum, alone_last, alone_gap, alone_two}
 use Rattle.heal.proofs.HealStep
 use Rattle.heal.proofs.HealShape.{Lawful, here, past, Exit, Heals, Mended, remove_upd}
 use Rattle.forest.proofs.WordLaws.{count-append}
@@ -39,14 +38,14 @@ module _ {enc : List Item → List ℕ} {cap low : ℕ} {o : Ops} (law : Lawful 
   -- heal_level with none left
   pub heal_none : HealStack.Stacked S Ss → length (remove_at (offset (sizes S) i) (items_at S (parent (sizes S) i))) ≡ 0 → 2 ≤ sum (sizes S) → s.st (s.ns (length Ss)) ≡ pad 16 [] → HealMem.Holds enc s.st (remove_at (parent (sizes S) i) S) →
       Mended enc (drop_row cap (parent (sizes S) i) (offset (sizes S) i) S) (lost (drop_row cap (parent (sizes S) i) (offset (sizes S) i) S) S) i S Ss s (heal_level o cap up (length Ss) s)
-  heal_none stacked_s zero_left two zeros rest = rw (is-M, fewer, se) (with-exit (ih S (remove_at (parent (sizes S) i) S) (parent (sizes S) i) Ss s refl (alone-gap i S b low cap law.least_two fill alone) par_in (alone-two i S b low cap law.least_two fill alone two) stacked_s
+  heal_none stacked_s zero_left two zeros rest = rw (is-M, fewer, se) (with-exit (ih S (remove_at (parent (sizes S) i) S) (parent (sizes S) i) Ss s refl (alone_gap i S b low cap law.least_two fill alone) par_in (alone_two i S b low cap law.least_two fill alone two) stacked_s
       (λ x. omega (arith, HealMem.gone_count S (parent (sizes S) i) x par_in, apart x)) hu path))
     where
       alone : length (items_at S (parent (sizes S) i)) ≡ 1
       alone = omega (arith, cut_left i S b)
 
       is_last : suc (parent (sizes S) i) ≡ length S
-      is_last = alone-last i S b low cap law.least_two fill alone
+      is_last = alone_last i S b low cap law.least_two fill alone
 
       is-M : drop_row cap (parent (sizes S) i) (offset (sizes S) i) S ≡ remove_at (parent (sizes S) i) S
       is-M = HealMend.drop_mend cap (parent (sizes S) i) (offset (sizes S) i) S ∙ HealMend.mend_empty cap (parent (sizes S) i) (HealStep.cut_row i S)

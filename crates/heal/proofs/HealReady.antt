@@ -3,7 +3,7 @@ use mathlib.Core.Path.{◌≡◌, refl, sym, ap, ◌∙◌, subst}
 use mathlib.Core.List.{List, [], ◌∷◌, ◌++◌}
 use mathlib.Core.Bool.{◌&&◌}
 use mathlib.Core.Option.{some}
-use Prim.Native.Nat.{ℕ, suc, ◌+◌, ◌-◌, ◌≤◌, ◌<◌}
+use Prim.Native.Nat.{ℕ, suc, ◌+◌, ◌≤◌, ◌<◌}
 use native.Mathlib.Omega.{arith}
 use lib.ListN.{length, get_or, length-map}
 use lib.Dec.{ltb, leb}
@@ -26,7 +26,7 @@ use Rattle.crit.proofs.HealNext
 use Rattle.heal.proofs.HealMend
 use Rattle.heal.proofs.HealStep
 use Rattle.forest.proofs.CountLaws.{small}
-use Rattle.heal.proofs.HealCut.{cut_length, cut_name, cut_path, cut_left, alone-gap, alone-two}
+use Rattle.heal.proofs.HealCut.{cut_length, cut_name, cut_path, cut_left, alone_gap, alone_two}
 use Rattle.heal.proofs.HealUp.{Lawful, empty_up, wounded}
 use Rattle.forest.proofs.WordLaws.{count-append}
 
@@ -95,9 +95,9 @@ module _ {enc : List Item → List ℕ} {cap low : ℕ} {o : Ops} (law : Lawful 
           at = parent (sizes w.row) w.at;
           rows = w.rows;
           level = w.level;
-          gap = alone-gap w.at w.row w.inside low cap law.least_two w.fill one;
+          gap = alone_gap w.at w.row w.inside low cap law.least_two w.fill one;
           inside = par_in;
-          two = alone-two w.at w.row w.inside low cap law.least_two w.fill one big;
+          two = alone_two w.at w.row w.inside low cap law.least_two w.fill one big;
           stacked = st;
           within = λ x. omega (arith, HealMem.gone_count w.row (parent (sizes w.row) w.at) x par_in, w.within x, count-append x (nums w.row) (numbers w.rows));
           up = w.up;

@@ -213,19 +213,19 @@ module _ (enc : List Item → List ℕ) (R : Row) (j : ℕ) (Ss : List Row) (st 
     abbrev pub keyed : HealMem.Store
     keyed = HealPath.right_set (righted st w) ns ps (length Ss) k
 
-    pub keyed-up : HealMem.HoldsUp keyed (HealStack.set_key (suc j) k Ss)
-    keyed-up = HealPath.right_set_holds (righted st w) ns ps R j k Ss h s (λ x. omega (arith, apart x)) (righted_up st w hu) p
+    pub keyed_up : HealMem.HoldsUp keyed (HealStack.set_key (suc j) k Ss)
+    keyed_up = HealPath.right_set_holds (righted st w) ns ps R j k Ss h s (λ x. omega (arith, apart x)) (righted_up st w hu) p
 
-    pub keyed-keeps : HealMem.Keeps (righted st w) keyed (numbers Ss)
-    keyed-keeps = HealPath.right_set-keeps (righted st w) ns ps R j k Ss (omega arith) s (righted_up st w hu) p
+    pub keyed_keeps : HealMem.Keeps (righted st w) keyed (numbers Ss)
+    keyed_keeps = HealPath.right_set-keeps (righted st w) ns ps R j k Ss (omega arith) s (righted_up st w hu) p
 
-    pub righted-row : HealMem.Holds enc (righted st w) (HealRows.upd (suc j) f R)
-    righted-row = HealMem.holds_upd enc st R (suc j) f w h (λ x. omega (arith, apart x)) e hr
+    pub righted_row : HealMem.Holds enc (righted st w) (HealRows.upd (suc j) f R)
+    righted_row = HealMem.holds_upd enc st R (suc j) f w h (λ x. omega (arith, apart x)) e hr
 
-    pub keyed-row : HealMem.Holds enc keyed (HealRows.upd (suc j) f R)
-    keyed-row =
-        HealMem.holds_apart enc (righted st w) keyed (numbers Ss) (HealRows.upd (suc j) f R) keyed-keeps
-        (λ x. rw (HealRows.upd-nums (suc j) f R) (omega (arith, apart x))) righted-row
+    pub keyed_row : HealMem.Holds enc keyed (HealRows.upd (suc j) f R)
+    keyed_row =
+        HealMem.holds_apart enc (righted st w) keyed (numbers Ss) (HealRows.upd (suc j) f R) keyed_keeps
+        (λ x. rw (HealRows.upd-nums (suc j) f R) (omega (arith, apart x))) righted_row
 
 -- Everything of the j-th node went to its right neighbour, whose words are w: the rows stand under a ghost row that still has the j-th node
 pub record Merged (enc : List Item → List ℕ) (R : Row) (j : ℕ) (Ss : List Row) (st st' : HealMem.Store) : Type 0 where
@@ -254,7 +254,7 @@ merge_ready enc R zero (S ∷ Ss) st ns ps s h one o hr hu p w e =
       gap = merge_gap R 0 S Ss s h one;
       name = refl;
       len = refl;
-      row = HealMem.holds_remove enc (HealMem.put st (HealRows.num_at R 1) w) (HealRows.upd 1 (λ ys. items_at R 0 ++ ys) R) 0 (righted-row enc R 0 (S ∷ Ss) st ns ps s h o hr hu p w (λ ys. items_at R 0 ++ ys) e 0);
+      row = HealMem.holds_remove enc (HealMem.put st (HealRows.num_at R 1) w) (HealRows.upd 1 (λ ys. items_at R 0 ++ ys) R) 0 (righted_row enc R 0 (S ∷ Ss) st ns ps s h o hr hu p w (λ ys. items_at R 0 ++ ys) e 0);
       up = righted_up enc R 0 (S ∷ Ss) st ns ps s h o hr hu p st w hu;
       keeps = λ x c. righted_keeps enc R 0 (S ∷ Ss) st ns ps s h o hr hu p st w x (none_of x (nums R) (numbers (S ∷ Ss)) c);
     })
@@ -273,9 +273,9 @@ merge_ready enc R (suc j) (S ∷ Ss) st ns ps s h one o hr hu p w e =
       gap = merge_gap R (suc j) S Ss s h one;
       name = HealRows.upd-num_at (suc j) (suc (suc j)) f R;
       len = HealRows.upd-length (suc (suc j)) f R;
-      row = HealMem.holds_remove enc (keyed enc R (suc j) (S ∷ Ss) st ns ps s h o hr hu p w f e k) (HealRows.upd (suc (suc j)) f R) (suc j) (keyed-row enc R (suc j) (S ∷ Ss) st ns ps s h o hr hu p w f e k);
-      up = keyed-up enc R (suc j) (S ∷ Ss) st ns ps s h o hr hu p w f e k;
+      row = HealMem.holds_remove enc (keyed enc R (suc j) (S ∷ Ss) st ns ps s h o hr hu p w f e k) (HealRows.upd (suc (suc j)) f R) (suc j) (keyed_row enc R (suc j) (S ∷ Ss) st ns ps s h o hr hu p w f e k);
+      up = keyed_up enc R (suc j) (S ∷ Ss) st ns ps s h o hr hu p w f e k;
       keeps = λ x c.
           let z : count x (nums R) + count x (numbers (S ∷ Ss)) ≡ 0 = rw (count-append x (nums R) (numbers (S ∷ Ss))) at c in
-          keyed-keeps enc R (suc j) (S ∷ Ss) st ns ps s h o hr hu p w f e k x (omega arith) ∙ righted_keeps enc R (suc j) (S ∷ Ss) st ns ps s h o hr hu p st w x (omega arith);
+          keyed_keeps enc R (suc j) (S ∷ Ss) st ns ps s h o hr hu p w f e k x (omega arith) ∙ righted_keeps enc R (suc j) (S ∷ Ss) st ns ps s h o hr hu p st w x (omega arith);
     })

@@ -2,7 +2,7 @@
 use mathlib.Core.Path.{◌≡◌, refl, sym, ap, ◌∙◌, subst}
 use mathlib.Core.List.{List, [], ◌∷◌, ◌++◌, map}
 use mathlib.Core.Bool.{Bool, true, false, cond}
-use Prim.Native.Nat.{ℕ, suc, ◌+◌, ◌-◌, ◌≤◌, ◌<◌}
+use Prim.Native.Nat.{ℕ, suc, ◌≤◌, ◌<◌}
 use native.Mathlib.Omega.{arith}
 use lib.ListN.{length, take, drop}
 use lib.Seq.{take-append_seam, drop-append_seam}
@@ -24,7 +24,7 @@ use Rattle.crit.proofs.HealMem
 use Rattle.crit.proofs.HealPath
 use Rattle.crit.proofs.HealNext
 use Rattle.heal.proofs.HealStep
-use Rattle.heal.proofs.HealUp.{Lawful, Heals, Mended, empty_up, heal-some, heal_none, drop_up-shape, freed_up-shape}
+use Rattle.heal.proofs.HealUp.{Lawful, Heals, Mended, empty_up, heal_some, heal_none, drop_up-shape, freed_up-shape}
 use Rattle.forest.proofs.WordLaws.{count-append}
 use Rattle.forest.proofs.NodeForms.{rekey_same}
 use Rattle.heal.proofs.HealCut.{cut_left}
@@ -175,7 +175,7 @@ module _ {enc : List Item → List ℕ} {cap low : ℕ} {leaf inner : Ops} (leaf
               record {
                 rows = Rs;
                 store = s_b.st;
-                is = simp (nz, place, e);
+                is = simp nz (simp (place, e));
                 shape = HealStack.same_refl Rs;
                 keeps = λ x c. keeps_b x (let z = rw (count-append x (nums L) (numbers Rs)) at c in omega arith);
                 up = up_b;
@@ -218,13 +218,13 @@ module _ {enc : List Item → List ℕ} {cap low : ℕ} {leaf inner : Ops} (leaf
         let path1 = HealNext.path_shape L L (parent (sizes L) i) s.ns s.ps refl (HealStack.same_sym f.shape) path in
         rw f.is (convert M (lost M L) f.rows f.store (heal_level leaf cap up (length Rs) (stored s f.store)) f.shape f.keeps
         (subst (λ (n : ℕ). Mended enc M (lost M L) i L f.rows (stored s f.store) (heal_level leaf cap up n (stored s f.store))) ln (elim f.left [
-          | alive more st row ↦ heal-some leaf_law up i L f.rows ups (stored s f.store) b fill each_once f.up (rw ln place) path1 (omega (arith, sum-L)) st row
+          | alive more st row ↦ heal_some leaf_law up i L f.rows ups (stored s f.store) b fill each_once f.up (rw ln place) path1 (omega (arith, sum-L)) st row
           | dead one st big zeros rest ↦ heal_none leaf_law up i L f.rows ups (stored s f.store) b fill each_once f.up (rw ln place) path1 st (omega (arith, sum-L)) big zeros rest
         ])))
 
     -- heal_level may be called
-    pub front-wounded : 2 ≤ sum (sizes L) → (N : ℕ) → Within N (nums L ++ numbers Rs) s.free → Wounded enc cap low N (length Rs) (fronted leaf cap inner key s_b (length Rs))
-    front-wounded two N within =
+    pub front_wounded : 2 ≤ sum (sizes L) → (N : ℕ) → Within N (nums L ++ numbers Rs) s.free → Wounded enc cap low N (length Rs) (fronted leaf cap inner key s_b (length Rs))
+    front_wounded two N within =
         let f = front-set two in
         let ln : length f.rows ≡ length Rs = HealNext.shape-length f.shape in
         rw f.is (record {
@@ -242,8 +242,8 @@ module _ {enc : List Item → List ℕ} {cap low : ℕ} {leaf inner : Ops} (leaf
         })
 
     -- the leaf's words are those of the cut
-    pub front-words : (fronted leaf cap inner key s_b (length Rs)).st (s.ns (length Rs)) ≡ s_b.st (s.ns (length Rs))
-    front-words = elim (test (eqb (leaf.entries (s_b.st (s.ns (length Rs)))) 0)) [
+    pub front_words : (fronted leaf cap inner key s_b (length Rs)).st (s.ns (length Rs)) ≡ s_b.st (s.ns (length Rs))
+    front_words = elim (test (eqb (leaf.entries (s_b.st (s.ns (length Rs)))) 0)) [
       | is e ↦ simp e
       | isnt e ↦ elim (test (eqb (s.ps (length Rs)) 0)) [
         | isnt f ↦ simp (e, f)
@@ -253,8 +253,8 @@ module _ {enc : List Item → List ℕ} {cap low : ℕ} {leaf inner : Ops} (leaf
       ]
     ]
 
-    pub front-path : ((fronted leaf cap inner key s_b (length Rs)).ns ≡ s.ns) × ((fronted leaf cap inner key s_b (length Rs)).ps ≡ s.ps)
-    front-path = elim (test (eqb (leaf.entries (s_b.st (s.ns (length Rs)))) 0)) [
+    pub front_path : ((fronted leaf cap inner key s_b (length Rs)).ns ≡ s.ns) × ((fronted leaf cap inner key s_b (length Rs)).ps ≡ s.ps)
+    front_path = elim (test (eqb (leaf.entries (s_b.st (s.ns (length Rs)))) 0)) [
       | is e ↦ simp e (refl, refl)
       | isnt e ↦ elim (test (eqb (s.ps (length Rs)) 0)) [ is f ↦ simp (e, f) (refl, refl) | isnt f ↦ simp (e, f) (refl, refl) ]
     ]

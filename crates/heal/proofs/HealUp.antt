@@ -3,7 +3,7 @@ use mathlib.Core.Path.{◌≡◌, refl, sym, ap, ◌∙◌, subst}
 use mathlib.Core.List.{List, [], ◌∷◌, ◌++◌}
 use mathlib.Core.Bool.{false}
 use mathlib.Core.Option.{some}
-use Prim.Native.Nat.{ℕ, zero, suc, ◌+◌, ◌-◌, ◌≤◌, ◌<◌}
+use Prim.Native.Nat.{ℕ, zero, suc, ◌+◌, ◌≤◌, ◌<◌}
 use native.Mathlib.Omega.{arith}
 use lib.ListN.{length, get_or}
 use lib.Dec.{ltb, eqb}
@@ -25,7 +25,7 @@ use Rattle.crit.proofs.HealPath
 use Rattle.crit.proofs.HealNext
 use Rattle.heal.proofs.HealStep
 pub use Rattle.heal.proofs.HealShape.{Lawful, Where, here, past, Exit, Heals, Mended, drop_up-shape, freed_up-shape}
-pub use Rattle.heal.proofs.HealLevel.{heal-some}
+pub use Rattle.heal.proofs.HealLevel.{heal_some}
 pub use Rattle.heal.proofs.HealNone.{heal_none}
 use Rattle.forest.proofs.WordLaws.{count-append}
 use Rattle.forest.proofs.TowerLaws.{went_length}
@@ -113,7 +113,7 @@ module _ {o : Ops} (law : Lawful o inner_words 8 4) (up : State → State) (R R'
   mended : Mended inner_words (drop_at j S) (lost (drop_at j S) S) j S Ss s_b (heal_level o 8 up (length Ss) s_b)
   mended = elim remains [
     | alive more st row ↦
-        heal-some law up j S Ss ih s_b b_in stacked.1 once_s hu_b p.1 p.2
+        heal_some law up j S Ss ih s_b b_in stacked.1 once_s hu_b p.1 p.2
         (omega (arith, cut_left j S b_in)) st row
     | dead one st big zeros rest ↦
         heal_none law up j S Ss ih s_b b_in stacked.1 once_s hu_b p.1 p.2 st
@@ -154,11 +154,11 @@ module _ {o : Ops} (law : Lawful o inner_words 8 4) (up : State → State) (R R'
   -- the state at the end has the words of s_c, and another cursor
   leaves : (t : State) → t.st ≡ s_c.st → t.free ≡ s_c.free → ((x : ℕ) → suc (length Ss) < x → t.ns x ≡ s_c.ns x) → t.ps ≡ s_c.ps →
       Where (length R') j (HealPath.Leads R' j (drop_at j S ∷ mended.rows) t.ns t.ps) s.live t.live → Exit R' j (HealRows.num_at R j) (S ∷ Ss) s t
-  leaves t a f n-same p-same w = record {
+  leaves t a f n_same p-same w = record {
     rows = drop_at j S ∷ mended.rows;
     shape = HealStack.also refl refl mended.shape;
     stacked = (drop_alike, drop_row_fill 8 4 (omega arith) (omega arith) (parent (sizes S) j) (offset (sizes S) j) S (offset_lt (sizes S) j b_in) stacked.1, mended.stacked);
-    up = rw a (mended.row, mended.up);
+    up = subst (λ (x : HealMem.Store). HealMem.HoldsUp x (drop_at j S ∷ mended.rows)) (sym a) (mended.row, mended.up);
     keeps = λ x c.
         let c2 : Rattle.forest.specs.Lists.once (eqb x (HealRows.num_at R j)) + (count x (nums S) + count x (numbers Ss)) ≡ 0 =
         rw (count-append x (nums S) (numbers Ss)) at c in
@@ -174,7 +174,7 @@ module _ {o : Ops} (law : Lawful o inner_words 8 4) (up : State → State) (R R'
           | isnt e ↦ let c3 : 1 ≤ 0 + (count x (nums S) + count x (numbers Ss)) = simp e at c2 in mended.zeros x (omega arith) d2
         ];
     free = f ∙ rw (← (HealNext.num_at-nums S (parent (sizes S) j))) mended.free;
-    deeper = λ x d. n-same x d ∙ mended.deeper x (omega arith);
+    deeper = λ x d. n_same x d ∙ mended.deeper x (omega arith);
     places = λ x d. ap (λ (q : ℕ → ℕ). q x) p-same ∙ mended.places x (omega arith);
     stands = w;
   }

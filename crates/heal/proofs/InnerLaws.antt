@@ -44,7 +44,7 @@ module _ {ws : List ℕ} {t : ℕ} {c : Cursor} {level : ℕ} (a : AskHeal inner
   items = (JoinLaws.here inner_kind inner_law inner_length a).items
 
   count_is : get_or w 0 0 ≡ 16 + (length items - 1)
-  count_is = rw (JoinLaws.here-words inner_kind inner_law inner_length a w e)
+  count_is = rw (JoinLaws.here_words inner_kind inner_law inner_length a w e)
 
   one : 1 ≤ length items
   one = (JoinLaws.here inner_kind inner_law inner_length a).one
@@ -53,7 +53,7 @@ module _ {ws : List ℕ} {t : ℕ} {c : Cursor} {level : ℕ} (a : AskHeal inner
   small_on h = JoinLaws.stays_on inner_kind inner_law inner_length a (omega (arith, count_is, one))
 
   pub small_off : {r : Cursor} → get_or w 0 0 ≤ get_or c.places level 0 + 15 → r.nodes ≡ c.nodes → r.places ≡ c.places → r.tree ≡ c.tree → r.size ≡ 0 → Leaves (λ s. stayed inner_kind s level) ws ws t c r
-  small_off h = JoinLaws.stays-off inner_kind inner_law inner_length a (omega (arith, count_is, one))
+  small_off h = JoinLaws.stays_off inner_kind inner_law inner_length a (omega (arith, count_is, one))
 
 pub both-length : (w v : List ℕ) (k : ℕ) → length (both w v k) ≡ (get_or w 0 0 - 15) + (get_or v 0 0 - 15)
 both-length w v k = length-append (inner_items w) (rekey_at 0 k (inner_items v)) ∙ rw (length-items w, length-rekey_at 0 k (inner_items v), length-items v)

@@ -1,7 +1,6 @@
 -- PROOFS. The operations on an inner node's words do to items what they should
 use mathlib.Core.Path.{refl, ap}
 use mathlib.Core.List.{◌++◌}
-use Prim.Native.Nat.{◌+◌, ◌-◌}
 use native.Mathlib.Omega.{arith}
 use lib.ListN.{length-append}
 use Rattle.forest.specs.Rows.{front}

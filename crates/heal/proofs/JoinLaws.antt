@@ -8,7 +8,7 @@ use native.Mathlib.Omega.{arith}
 use lib.ListN.{length, get_or, take, drop}
 use lib.Dec.{ltb, leb}
 use borrow.Author.Tests.{lt-ltb, le-ltb}
-use Rattle.forest.specs.Lists.{remove_at, count, parent, offset}
+use Rattle.forest.specs.Lists.{remove_at, parent, offset}
 use Rattle.forest.specs.Pairs.{Item}
 use Rattle.forest.specs.Rows.{front, nums, sizes}
 use Rattle.forest.specs.declared.Cursor.{Cursor}
@@ -24,11 +24,11 @@ use Rattle.crit.specs.States.{right_sibling, right_set, hand_key, stored}
 use Rattle.crit.specs.Asks.{Mem, moved, Spelt, Route, Leaves}
 use Rattle.heal.specs.Cycle.{Kind, left, fits, gathered, shared, stayed, AskHeal, AskJoin, Joined, Cuts}
 use Rattle.crit.proofs.HealMem
-use Rattle.crit.proofs.SpeltLaws.{spelt-block, spelt-placed, spelt-store, spelt_level, same_count}
+use Rattle.crit.proofs.SpeltLaws.{spelt_block, spelt_placed, spelt_store, spelt_level, same_count}
 use Rattle.crit.proofs.NextLaws.{spelt_off}
 use Rattle.heal.proofs.HealUp.{Lawful}
 use Rattle.heal.proofs.WoundLaws.{Held, held_here, held_mate}
-use Rattle.heal.proofs.CycleLaws.{heal-way-put, some_left}
+use Rattle.heal.proofs.CycleLaws.{heal_way_put, some_left}
 
 module _ (k : Kind) (law : Lawful k.ops k.words k.cap k.low) (sixteen : (xs : List Item) → length (k.words xs) ≡ 16) where
   -- the words of a node without an item
@@ -59,12 +59,12 @@ module _ (k : Kind) (law : Lawful k.ops k.words k.cap k.low) (sixteen : (xs : Li
         let a : get_or c.places l 0 ≡ m.s.ps l = sp.places l d in
         let b : k.words xs ≡ m.s.st (m.s.ns l) = sym w ∙ spelt_level sp l d lo (rw (← (same_count sp0 sp)) hi) in
         subst (λ (x : ℕ × List ℕ). Spelt vs t c (moved m (stored m.s (put m.s.st x.0 x.1)))) (λ i. (n i, k.ops.cut (b i) (a i)))
-        (rw v (spelt-store sp (get_or c.nodes l 0) lo (rw (← (same_count sp0 sp)) hi) (k.ops.cut (k.words xs) (get_or c.places l 0)) (cut_length xs (get_or c.places l 0) p f)));
+        (rw v (spelt_store sp (get_or c.nodes l 0) lo (rw (← (same_count sp0 sp)) hi) (k.ops.cut (k.words xs) (get_or c.places l 0)) (cut_length xs (get_or c.places l 0) p f)));
     says = λ m sp.
-        let sp1 = spelt-store sp0 (get_or c.nodes l 0) lo hi (k.ops.cut (k.words xs) (get_or c.places l 0)) (cut_length xs (get_or c.places l 0) p f) in
+        let sp1 = spelt_store sp0 (get_or c.nodes l 0) lo hi (k.ops.cut (k.words xs) (get_or c.places l 0)) (cut_length xs (get_or c.places l 0) p f) in
         let sp2 = rw (← v) at sp1 in
         let e : m.s.st (get_or c.nodes l 0) ≡ k.ops.cut (k.words xs) (get_or c.places l 0) =
-        sym (spelt-block sp (get_or c.nodes l 0) lo (rw (← (same_count sp2 sp)) hi)) ∙ spelt-block sp2 (get_or c.nodes l 0) lo hi ∙ HealMem.put_same m0.s.st (get_or c.nodes l 0) (k.ops.cut (k.words xs) (get_or c.places l 0)) in
+        sym (spelt_block sp (get_or c.nodes l 0) lo (rw (← (same_count sp2 sp)) hi)) ∙ spelt_block sp2 (get_or c.nodes l 0) lo hi ∙ HealMem.put_same m0.s.st (get_or c.nodes l 0) (k.ops.cut (k.words xs) (get_or c.places l 0)) in
         let g : left k m.s l ≡ length xs - 1 = ap (λ (x : ℕ). k.ops.entries (m.s.st x)) (sym (sp.nodes l d)) ∙ ap k.ops.entries e ∙ cut_left xs (get_or c.places l 0) p f in
         q ∙ ap (λ (x : ℕ). status_of k.cap x (length xs - 1)) (sp.places l d) ∙ ap (status_of k.cap (m.s.ps l)) (sym g);
   }
@@ -77,17 +77,17 @@ module _ (k : Kind) (law : Lawful k.ops k.words k.cap k.low) (sixteen : (xs : Li
     name : get_or c.nodes level 0 ≡ a.mem.s.ns level
     name = a.spelt.nodes level a.deep
 
-    pub here-placed : Placed ws t (get_or c.nodes level 0)
-    here-placed = rw name (spelt-placed a.spelt (a.mem.s.ns level) here.some here.few)
+    pub here_placed : Placed ws t (get_or c.nodes level 0)
+    here_placed = rw name (spelt_placed a.spelt (a.mem.s.ns level) here.some here.few)
 
     here-block : block ws t (get_or c.nodes level 0) ≡ k.words here.items
-    here-block = rw name (spelt-block a.spelt (a.mem.s.ns level) here.some here.few ∙ here.words)
+    here-block = rw name (spelt_block a.spelt (a.mem.s.ns level) here.some here.few ∙ here.words)
 
     here_of : (m : Mem) → Spelt ws t c m → block ws t (get_or c.nodes level 0) ≡ m.s.st (m.s.ns level)
     here_of m sp = spelt_level sp level a.deep (rw name here.some) (rw (name, ← (same_count a.spelt sp)) here.few)
 
-    pub here-words : (w : List ℕ) → w ≡ block ws t (get_or c.nodes level 0) → w ≡ k.words here.items
-    here-words w e = e ∙ here-block
+    pub here_words : (w : List ℕ) → w ≡ block ws t (get_or c.nodes level 0) → w ≡ k.words here.items
+    here_words w e = e ∙ here-block
 
     left_of_lem : (m : Mem) → Spelt ws t c m → left k m.s level ≡ length here.items
     left_of_lem m sp = ap k.ops.entries (sym (here_of m sp) ∙ here-block) ∙ law.entries_is here.items here.one
@@ -105,8 +105,8 @@ module _ (k : Kind) (law : Lawful k.ops k.words k.cap k.low) (sixteen : (xs : Li
           simp e sp;
     }
 
-    pub stays-off : {r : Cursor} → length here.items ≤ get_or c.places level 0 → r.nodes ≡ c.nodes → r.places ≡ c.places → r.tree ≡ c.tree → r.size ≡ 0 → Leaves (λ s. stayed k s level) ws ws t c r
-    stays-off {r} h x y tr z = record {
+    pub stays_off : {r : Cursor} → length here.items ≤ get_or c.places level 0 → r.nodes ≡ c.nodes → r.places ≡ c.places → r.tree ≡ c.tree → r.size ≡ 0 → Leaves (λ s. stayed k s level) ws ws t c r
+    stays_off {r} h x y tr z = record {
       run = λ m sp.
           let e : ltb (m.s.ps level) (left k m.s level) ≡ false = rw (left_of_lem m sp, ← (sp.places level a.deep)) (le-ltb _ _ h) in
           simp e (spelt_off sp x y tr z);
@@ -120,14 +120,14 @@ module _ (k : Kind) (law : Lawful k.ops k.words k.cap k.low) (sixteen : (xs : Li
     pub mate : Held k.words k.cap j.heal.mem.count j.heal.ready.row j.heal.mem.s.st node
     mate = held_mate law j.heal.mem.count level j.heal.mem.s j.heal.ready (key, node) (some_left k law j.heal refl) right
 
-    pub mate-placed : Placed ws t node
-    mate-placed = spelt-placed j.heal.spelt node mate.some mate.few
+    pub mate_placed : Placed ws t node
+    mate_placed = spelt_placed j.heal.spelt node mate.some mate.few
 
-    pub mate-words : (v : List ℕ) → v ≡ block ws t node → v ≡ k.words mate.items
-    mate-words v e = e ∙ spelt-block j.heal.spelt node mate.some mate.few ∙ mate.words
+    pub mate_words : (v : List ℕ) → v ≡ block ws t node → v ≡ k.words mate.items
+    mate_words v e = e ∙ spelt_block j.heal.spelt node mate.some mate.few ∙ mate.words
 
     mate-of : (m : Mem) → Spelt ws t c m → block ws t node ≡ m.s.st node
-    mate-of m sp = spelt-block sp node mate.some (rw (← (same_count j.heal.spelt sp)) mate.few)
+    mate-of m sp = spelt_block sp node mate.some (rw (← (same_count j.heal.spelt sp)) mate.few)
 
     hi_of : (m : Mem) → Spelt ws t c m → node ≤ m.count
     hi_of m sp = rw (← (same_count j.heal.spelt sp)) mate.few
@@ -171,15 +171,15 @@ module _ (k : Kind) (law : Lawful k.ops k.words k.cap k.low) (sixteen : (xs : Li
       -- all to the right
       module _ (vs : List ℕ) (e1 : vs ≡ with_block ws t node b.right) where
         stored-right : (m : Mem) → Spelt ws t c m → Spelt vs t c (moved m (stored m.s (put m.s.st node b.right)))
-        stored-right m sp = rw e1 (spelt-store sp node mate.some (hi_of m sp) b.right right-length)
+        stored-right m sp = rw e1 (spelt_store sp node mate.some (hi_of m sp) b.right right-length)
 
-        pub way-gathered : Route vs t c level
-        way-gathered =
-            heal-way-put k law j.heal (put j.heal.mem.s.st node b.right)
+        pub way_gathered : Route vs t c level
+        way_gathered =
+            heal_way_put k law j.heal (put j.heal.mem.s.st node b.right)
             (HealMem.put_keeps j.heal.mem.s.st node b.right (nums j.heal.ready.row) mate.inside) (stored-right j.heal.mem j.heal.spelt)
 
-        pub joined-all : {us' : List ℕ} → b.all ≡ true → Leaves (λ s. stored s (hand_key s.st s.ns s.ps level)) vs us' t c c → Joined k ws us' t c level true
-        joined-all {us'} h f = record {
+        pub joined_all : {us' : List ℕ} → b.all ≡ true → Leaves (λ s. stored s (hand_key s.st s.ns s.ps level)) vs us' t c c → Joined k ws us' t c level true
+        joined_all {us'} h f = record {
           all_is = λ m x sp e. sym h ∙ flag ∙ fits-of m x sp e;
           gather_all = λ m x sp e q.
               let i : ◌≡◌ {A = Item} (key, node) x = cc (j.finds.run m sp, e) in
@@ -199,23 +199,23 @@ module _ (k : Kind) (law : Lawful k.ops k.words k.cap k.low) (sixteen : (xs : Li
         stored-left m sp =
             let n = sp.nodes level j.heal.deep in
             subst (λ (n : ℕ). Spelt vs t c (moved m (stored m.s (put m.s.st n b.left)))) n
-            (rw e1 (spelt-store sp (get_or c.nodes level 0) (rw (name j.heal) (here j.heal).some) (rw (name j.heal, ← (same_count j.heal.spelt sp)) (here j.heal).few) b.left left-length))
+            (rw e1 (spelt_store sp (get_or c.nodes level 0) (rw (name j.heal) (here j.heal).some) (rw (name j.heal, ← (same_count j.heal.spelt sp)) (here j.heal).few) b.left left-length))
 
         stored-both : (m : Mem) → Spelt ws t c m → Spelt us' t c (moved m (stored m.s (put (put m.s.st (m.s.ns level) b.left) node b.right)))
-        stored-both m sp = rw e2 (spelt-store (stored-left m sp) node mate.some (hi_of m sp) b.right right-length)
+        stored-both m sp = rw e2 (spelt_store (stored-left m sp) node mate.some (hi_of m sp) b.right right-length)
 
-        pub left-placed : Placed vs t node
-        left-placed = spelt-placed (stored-left j.heal.mem j.heal.spelt) node mate.some mate.few
+        pub left_placed : Placed vs t node
+        left_placed = spelt_placed (stored-left j.heal.mem j.heal.spelt) node mate.some mate.few
 
-        pub way-shared : Route us' t c level
-        way-shared =
-            heal-way-put k law j.heal (put (put j.heal.mem.s.st (j.heal.mem.s.ns level) b.left) node b.right)
+        pub way_shared : Route us' t c level
+        way_shared =
+            heal_way_put k law j.heal (put (put j.heal.mem.s.st (j.heal.mem.s.ns level) b.left) node b.right)
             (λ x z. HealMem.put_keeps (put j.heal.mem.s.st (j.heal.mem.s.ns level) b.left) node b.right (nums j.heal.ready.row) mate.inside x z ∙
             HealMem.put_keeps j.heal.mem.s.st (j.heal.mem.s.ns level) b.left (nums j.heal.ready.row) (here j.heal).inside x z)
             (stored-both j.heal.mem j.heal.spelt)
 
-        pub joined-some : {xs : List ℕ} → Leaves (λ s. stored s (right_set s.st s.ns s.ps level b.key)) us' xs t c c → Joined k ws xs t c level false
-        joined-some {xs} f = record {
+        pub joined_some : {xs : List ℕ} → Leaves (λ s. stored s (right_set s.st s.ns s.ps level b.key)) us' xs t c c → Joined k ws xs t c level false
+        joined_some {xs} f = record {
           all_is = λ m x sp e. sym h ∙ flag ∙ fits-of m x sp e;
           gather_all = λ m x sp e q. absurd (true≢false (sym q));
           share_some = λ m x sp e q.

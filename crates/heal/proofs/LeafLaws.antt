@@ -6,7 +6,7 @@ use native.Mathlib.Omega.{arith}
 use lib.ListN.{length, get_or, length-append}
 use Rattle.forest.specs.Lists.{count, parent, offset}
 use Rattle.forest.specs.Pairs.{Item}
-use Rattle.forest.specs.Rows.{Row, size, nums, sizes, items_at}
+use Rattle.forest.specs.Rows.{Row, nums, sizes, items_at}
 use Rattle.forest.specs.Trees.{numbers}
 use Rattle.forest.specs.Pools.{leaf_words}
 use Rattle.forest.specs.declared.Cursor.{Cursor}
@@ -22,7 +22,7 @@ use Rattle.heal.specs.Steps.{leaf_ops}
 use Rattle.heal.specs.Cycle.{leaf_kind, stayed, AskHeal, AskFront, Cuts, AskPair}
 use Rattle.crit.proofs.HealMem
 use Rattle.crit.proofs.HealPath
-use Rattle.crit.proofs.SpeltLaws.{spelt-block, spelt-placed}
+use Rattle.crit.proofs.SpeltLaws.{spelt_block, spelt_placed}
 use Rattle.heal.proofs.HealUp.{Lawful}
 use Rattle.heal.proofs.LeafOps
 use Rattle.heal.proofs.FreeLaws.{within_named}
@@ -40,13 +40,13 @@ module _ {ws : List ℕ} {t : ℕ} {c : Cursor} {level : ℕ} (a : AskHeal leaf_
   items = (JoinLaws.here leaf_kind leaf_law leaf_length a).items
 
   count_is : get_or w 0 0 ≡ 32 + length items
-  count_is = rw (JoinLaws.here-words leaf_kind leaf_law leaf_length a w e)
+  count_is = rw (JoinLaws.here_words leaf_kind leaf_law leaf_length a w e)
 
   pub small_on : get_or c.places level 0 + 32 < get_or w 0 0 → Leaves (λ s. stayed leaf_kind s level) ws ws t c c
   small_on h = JoinLaws.stays_on leaf_kind leaf_law leaf_length a (omega (arith, count_is))
 
   pub small_off : {r : Cursor} → get_or w 0 0 ≤ get_or c.places level 0 + 32 → r.nodes ≡ c.nodes → r.places ≡ c.places → r.tree ≡ c.tree → r.size ≡ 0 → Leaves (λ s. stayed leaf_kind s level) ws ws t c r
-  small_off h = JoinLaws.stays-off leaf_kind leaf_law leaf_length a (omega (arith, count_is))
+  small_off h = JoinLaws.stays_off leaf_kind leaf_law leaf_length a (omega (arith, count_is))
 
 pub both-length : (w v : List ℕ) → length (leaf_pairs w ++ leaf_pairs v) ≡ (get_or w 0 0 - 32) + (get_or v 0 0 - 32)
 both-length w v = length-append (leaf_pairs w) (leaf_pairs v) ∙ rw (length_pairs w, length_pairs v)
@@ -86,17 +86,17 @@ module _ {ws : List ℕ} {t : ℕ} {c : Cursor} {level : ℕ} (a : AskPair ws t 
       (omega (arith, inside_count, count-append (get_or c.nodes level 0) (nums a.row) (numbers a.rows)))
 
   pub leaf_placed : Placed ws t (get_or c.nodes level 0)
-  leaf_placed = spelt-placed a.spelt (get_or c.nodes level 0) leaf_named.0 leaf_named.1
+  leaf_placed = spelt_placed a.spelt (get_or c.nodes level 0) leaf_named.0 leaf_named.1
 
   words : block ws t (get_or c.nodes level 0) ≡ leaf_words xs
-  words = spelt-block a.spelt (get_or c.nodes level 0) leaf_named.0 leaf_named.1 ∙ rw leaf_name (HealMem.holds_at leaf_words a.mem.s.st a.row (parent (sizes a.row) a.at) par_in a.holds)
+  words = spelt_block a.spelt (get_or c.nodes level 0) leaf_named.0 leaf_named.1 ∙ rw leaf_name (HealMem.holds_at leaf_words a.mem.s.st a.row (parent (sizes a.row) a.at) par_in a.holds)
 
   module _ (w : List ℕ) (e : w ≡ block ws t (get_or c.nodes level 0)) where
     w-count : get_or w 0 0 ≡ 32 + length xs
     w-count = ap (λ (v : List ℕ). get_or v 0 0) (e ∙ words)
 
-    pub leaf-asks : Leaf w × (get_or c.places level 0 < get_or w 0 0 - 32)
-    leaf-asks = (subst Leaf (sym (e ∙ words)) (leaf_is xs (omega (arith, off_in)) few_xs), omega (arith, w-count, leaf_place, off_in))
+    pub leaf_asks : Leaf w × (get_or c.places level 0 < get_or w 0 0 - 32)
+    leaf_asks = (subst Leaf (sym (e ∙ words)) (leaf_is xs (omega (arith, off_in)) few_xs), omega (arith, w-count, leaf_place, off_in))
 
     pub leaf_cut_lem : {vs cw : List ℕ} {status : Removed} → vs ≡ with_block ws t (get_or c.nodes level 0) cw → cw ≡ leaf_cut w (get_or c.places level 0) → status ≡ status_of 7 (get_or c.places level 0) (get_or w 0 0 - 33) →
         Cuts leaf_kind ws vs t c level status

@@ -1,7 +1,7 @@
 -- PROOFS. The operations on a leaf's words do to pairs what they should, over the minimum of a leaf that is not the last
 use mathlib.Core.Path.{◌≡◌, refl}
 use mathlib.Core.List.{List}
-use Prim.Native.Nat.{ℕ, ◌-◌, ◌*◌, ◌≤◌}
+use Prim.Native.Nat.{ℕ, ◌*◌, ◌≤◌}
 use native.Mathlib.Omega.{arith}
 use lib.ListN.{length, get_or}
 use Rattle.forest.specs.Pairs.{Item}

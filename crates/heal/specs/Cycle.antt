@@ -1,5 +1,5 @@
 -- DEFINITIONS. The cycle of three over words: what heal_level, underflowed_node and empty_node ask and leave, over the kind of the nodes at a level
-use Rattle.std.specs.Prelude.{◌≡◌, List, ◌++◌, Bool, true, false, ℕ, ◌+◌, ◌≤◌, ◌<◌, length, get_or}
+use Rattle.std.specs.Prelude.{◌≡◌, List, ◌++◌, Bool, true, false, ℕ, ◌≤◌, ◌<◌, length, get_or}
 use Rattle.std.proofs.Math.Option.{some}
 use Rattle.forest.specs.Sizes.{most_levels, leaf_cap, inner_cap, leaf_least, inner_least}
 use Rattle.forest.specs.Lists.{sum, parent, offset}

@@ -1,4 +1,6 @@
 // Healing upward after an item went, as the crate's path.rs has it: the cut, the cycle of three, and the leaf at the bottom.
+#![tactic(auto)]
+
 ghost use Rattle.std.specs.Prelude.{◌-◌, ◌<◌};
 ghost use Rattle.forest.specs.Sizes.{leaf_cap};
 ghost use Rattle.crit.specs.Asks.{Route, Leaves};

@@ -22,7 +22,7 @@ use Rattle.forest.specs.Cursors.{leaves, pair_at, first, cursor_at, Move, to_fir
 use Rattle.forest.specs.Promises.{Moves}
 use Rattle.forest.proofs.ListLaws.{is, isnt, test, cons_eq}
 use Rattle.forest.proofs.Reasons.{passes, stops, verdict, number}
-use Rattle.forest.proofs.PoolLaws.{call-formed}
+use Rattle.forest.proofs.PoolLaws.{call_formed}
 use Rattle.forest.proofs.CallLaws.{get_same}
 use Rattle.forest.proofs.CursorCalls.{move-done, move-refused, move-reads}
 use Rattle.forest.proofs.MoveLaws.{barred, move_free}
@@ -102,7 +102,7 @@ module _ (m : ℕ) (lo : 1 ≤ m) (hi : m ≤ 4) where
   made_unsound (led k) n = (k.unsound_words n, k.unsound_answer n)
 
   act_formed : (a : Act) (p : Pool) → WellFormed m p → WellFormed m (act_pool a p)
-  act_formed (ask c) p w = call-formed m lo hi c p w
+  act_formed (ask c) p w = call_formed m lo hi c p w
   act_formed (least t) p w = w
 
   pub acts_formed : (cs : List Act) (p : Pool) → WellFormed m p → WellFormed m (finally act_kind cs p)

@@ -16,7 +16,7 @@ use Rattle.forest.specs.Cursors.{pair_at, Move, to_first, to_key, to_next, to_pr
 use Rattle.forest.specs.Promises.{Moves}
 use Rattle.forest.proofs.ListLaws.{is, isnt, test}
 use Rattle.forest.proofs.Reasons.{Verdict, passes, stops, verdict}
-use Rattle.forest.proofs.PoolLaws.{call-formed}
+use Rattle.forest.proofs.PoolLaws.{call_formed}
 use Rattle.forest.proofs.CountLaws.{fresh_formed}
 use Rattle.forest.proofs.CursorCalls.{move-done, move-refused, move-reads, move_formed}
 use Rattle.forest.proofs.MoveLaws.{row, spot_in}
@@ -71,7 +71,7 @@ module _ (m : ℕ) (lo : 1 ≤ m) (hi : m ≤ 4) where
       let f = format_struck T N ws (ap kept (sym a) ∙ u.0) in
       let g : formatted T N (length (encode p)) ≡ false = ap (λ (x : List ℕ). formatted T N (length x)) b ∙ f.0 in
       rw g (unformatted T N f.0 (rw (e ∙ f.1) at (any_calls h u.1 p w (b ∙ sym (e ∙ f.1)))))
-  any_calls (calls {c = c} k h) u p w b = one (by_key k) (any_calls h u (call c p).pool (call-formed m lo hi c p w) (k.sound_words p w b))
+  any_calls (calls {c = c} k h) u p w b = one (by_key k) (any_calls h u (call c p).pool (call_formed m lo hi c p w) (k.sound_words p w b))
   any_calls (moves {v = v} {c = c} k h) u p w b =
       move-counted p w b (any_calls h u (move v c p).pool (move_formed m lo hi v c p w) (k.sound_words p w b)) v k
 

@@ -14,13 +14,13 @@ use Rattle.forest.specs.declared.Reply.TheVariants.{Value}
 use Rattle.forest.specs.Answers.{kept}
 use Rattle.forest.specs.Pools.{Pool, WellFormed, encode, Call, put, get, tree_of, call, run, formatted}
 use Rattle.forest.specs.Cursors.{cursor_at, stands, to_first, to_key, to_next, to_remove, move}
-use Rattle.forest.proofs.PoolLaws.{call-formed}
+use Rattle.forest.proofs.PoolLaws.{call_formed}
 use Rattle.forest.proofs.RunLaws.{run_formed}
 use Rattle.forest.proofs.Premises.{pool, pool_formed, cursor}
 use Rattle.forest.proofs.Trials.{steps}
 use Rattle.history.specs.Holdings.{HoldsPairs, StandsAt, Whole, TakesOut}
 use Rattle.history.proofs.Holdings.{put_again}
-use Rattle.history.proofs.Places.{remove-at-holds}
+use Rattle.history.proofs.Places.{remove_at_holds}
 use Rattle.history.proofs.Premises.{on_key, on_pool}
 
 -- Words: nine pairs in tree 0 and one in tree 1
@@ -71,7 +71,7 @@ abbrev pub grown : Pool
 grown = (call (put 0 37 1) pool).pool
 
 pub grown_formed : WellFormed leaf_least grown
-grown_formed = call-formed leaf_least (omega arith) (omega arith) (put 0 37 1) pool pool_formed
+grown_formed = call_formed leaf_least (omega arith) (omega arith) (put 0 37 1) pool pool_formed
 
 pub put_twice_done : ((call (put 0 37 1) grown).answer ≡ Value 1) × (encode (call (put 0 37 1) grown).pool ≡ encode grown)
 put_twice_done = put_again (on_key (put 0 37 1) pool pool_formed) put-done (on_key (put 0 37 1) grown grown_formed)
@@ -132,4 +132,4 @@ nowhere = (refl, refl)
 
 -- 30 is taken out at its cursor
 pub thirty_taken : TakesOut leaf_least cursor (encode (move to_remove cursor pool).pool) (move to_remove cursor pool).answer (move to_remove cursor pool).cursor nine 2 (30, 3)
-thirty_taken = remove-at-holds leaf_least (omega arith) (omega arith) (on_pool to_remove cursor pool pool_formed) on_thirty
+thirty_taken = remove_at_holds leaf_least (omega arith) (omega arith) (on_pool to_remove cursor pool pool_formed) on_thirty

@@ -23,7 +23,7 @@ use Rattle.forest.specs.Promises.{Calls}
 use Rattle.forest.proofs.ListLaws.{is, isnt, test}
 use Rattle.forest.proofs.Reasons.{passes, stops, verdict}
 use Rattle.forest.proofs.TreeLaws.{pairs_get}
-use Rattle.forest.proofs.PoolLaws.{good_at, call_free, call-refused, refused_two, refused_four, other_trees, same_trees, call-formed, call-pairs, call_answer, put-held, put_twice}
+use Rattle.forest.proofs.PoolLaws.{good_at, call_free, call-refused, refused_two, refused_four, other_trees, same_trees, call_formed, call-pairs, call_answer, put-held, put_twice}
 use Rattle.forest.proofs.CallLaws.{room_exactly, get_same, remove_absent}
 use Rattle.forest.proofs.RunLaws.{kept_free, free_kept}
 use Rattle.forest.proofs.CountLaws.{format_in, fresh_formed}
@@ -73,7 +73,7 @@ module _ (m : ℕ) (lo : 1 ≤ m) (hi : m ≤ 4) {c : Call} {ws us : List ℕ} {
   abbrev after_call : Sound m ws → Sound m us
   after_call s = record {
     pool = (call c s.pool).pool;
-    formed = call-formed m lo hi c s.pool s.formed;
+    formed = call_formed m lo hi c s.pool s.formed;
     same = k.sound_words s.pool s.formed s.same;
   }
 
@@ -175,8 +175,8 @@ module _ (m : ℕ) (lo : 1 ≤ m) (hi : m ≤ 4) {t x : ℕ} {ws us : List ℕ} 
         (λ q. e.0 (a ∙ q), λ q. sym a ∙ e.1 q)
 
     -- of a value that is held: no word changes
-    pub put-known : lookup x xs ≡ some v → (r ≡ Value v) × (us ≡ ws)
-    put-known e =
+    pub put_known : lookup x xs ≡ some v → (r ≡ Value v) × (us ≡ ws)
+    put_known e =
         let p = h.sound.pool in
         let w = h.sound.formed in
         let g = pairs_get m leaf_cap x lo (tree_of p t) (good_at m p.trees t w.good) ∙ ap (lookup x) h.same ∙ e in

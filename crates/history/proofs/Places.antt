@@ -19,7 +19,7 @@ use Rattle.forest.specs.Answers.{told, kept}
 use Rattle.forest.specs.Pools.{Pool, WellFormed, Sound, tree_of}
 use Rattle.forest.specs.Cursors.{Spot, off, leaves, pair_at, seek, position, spot_at, path_of, spot_of, path_in, stands, Move, to_first, to_key, to_next, to_prev, to_settled, to_remove, reads, blocked, move_from, move}
 use Rattle.forest.specs.Promises.{Moves}
-use Rattle.forest.proofs.ListLaws.{same, length-remove_at}
+use Rattle.forest.proofs.ListLaws.{length-remove_at}
 use Rattle.forest.proofs.Reasons.{passes, stops, verdict}
 use Rattle.forest.proofs.PoolLaws.{good_at}
 use Rattle.forest.proofs.RowLaws.{sum-sizes}
@@ -234,38 +234,38 @@ module _ (m : ℕ) (lo : 1 ≤ m) (hi : m ≤ 4) {c d : Cursor} {ws us : List �
 
   module _ {i : ℕ} where
     -- settle: the pair whose place the cursor has
-    pub settle-holds : {o : Option Item} → Moves m to_settled c ws us r d → StandsAt m ws c xs i o → Arrives m c ws us r d Nothing xs i (get_elem? xs i)
-    settle-holds k s =
+    pub settle_holds : {o : Option Item} → Moves m to_settled c ws us r d → StandsAt m ws c xs i o → Arrives m c ws us r d Nothing xs i (get_elem? xs i)
+    settle_holds k s =
         let h = s.holds in
         let e = free m lo s to_settled in
         rw (← h.same, ← s.before) (goes-place m lo hi k h.sound h.there e (λ z. true≢false (cc)) (few m lo s) (settle_goes m lo hi h.sound.pool h.sound.formed c e))
 
     -- on a pair it stays
-    pub settle-stays : {y : Item} → Moves m to_settled c ws us r d → StandsAt m ws c xs i (some y) → Whole c → Remains c ws us r d Nothing
-    settle-stays k s w =
+    pub settle_stays : {y : Item} → Moves m to_settled c ws us r d → StandsAt m ws c xs i (some y) → Whole c → Remains c ws us r d Nothing
+    settle_stays k s w =
         let h = s.holds in
         let e = free m lo s to_settled in
         let g = settle_goes m lo hi h.sound.pool h.sound.formed c e in
         remains-at m lo hi k h.sound h.there e (λ z. true≢false (cc)) w s.standing (record { answers = g.answers; spot = g.spot ∙ back_there m lo s })
 
     -- next: from a pair the one after it
-    pub next-holds : {y : Item} → Moves m to_next c ws us r d → StandsAt m ws c xs i (some y) → Arrives m c ws us r d (told (get_elem? xs (suc i))) xs (suc i) (get_elem? xs (suc i))
-    next-holds {y} k s =
+    pub next_holds : {y : Item} → Moves m to_next c ws us r d → StandsAt m ws c xs i (some y) → Arrives m c ws us r d (told (get_elem? xs (suc i))) xs (suc i) (get_elem? xs (suc i))
+    next_holds {y} k s =
         let h = s.holds in
         let e = free m lo s to_next in
         let l : suc (rank h.sound.pool c) ≤ length (list h.sound.pool c) = rw (s.before, h.same) (nth_lt xs i y (pair_place m lo s)) in
         rw (← h.same, ← s.before) (goes-place m lo hi k h.sound h.there e (λ z. true≢false (cc)) l (next-goes m lo hi h.sound.pool h.sound.formed c y e s.pair))
 
     -- from no pair the one whose place the cursor has
-    pub next-past-holds : Moves m to_next c ws us r d → StandsAt m ws c xs i none → Arrives m c ws us r d (told (get_elem? xs i)) xs i (get_elem? xs i)
-    next-past-holds k s =
+    pub next_past_holds : Moves m to_next c ws us r d → StandsAt m ws c xs i none → Arrives m c ws us r d (told (get_elem? xs i)) xs i (get_elem? xs i)
+    next_past_holds k s =
         let h = s.holds in
         let e = free m lo s to_next in
         rw (← h.same, ← s.before) (goes-place m lo hi k h.sound h.there e (λ z. true≢false (cc)) (few m lo s) (next_past_goes m lo hi h.sound.pool h.sound.formed c e s.pair))
 
     -- prev: the pair before the place
-    pub prev-holds : {o : Option Item} → Moves m to_prev c ws us r d → StandsAt m ws c xs (suc i) o → Arrives m c ws us r d (told (get_elem? xs i)) xs i (get_elem? xs i)
-    prev-holds k s =
+    pub prev_holds : {o : Option Item} → Moves m to_prev c ws us r d → StandsAt m ws c xs (suc i) o → Arrives m c ws us r d (told (get_elem? xs i)) xs i (get_elem? xs i)
+    prev_holds k s =
         let h = s.holds in
         let p = h.sound.pool in
         let e = free m lo s to_prev in
@@ -276,8 +276,8 @@ module _ (m : ℕ) (lo : 1 ≤ m) (hi : m ≤ 4) {c d : Cursor} {ws us : List �
         rw (← h.same, ← j) (goes-place m lo hi k h.sound h.there e (λ z. true≢false (cc)) (omega arith) g)
 
     -- remove: the pair goes
-    pub remove-at-holds : {y : Item} → Moves m to_remove c ws us r d → StandsAt m ws c xs i (some y) → TakesOut m c us r d xs i y
-    remove-at-holds {y} k s =
+    pub remove_at_holds : {y : Item} → Moves m to_remove c ws us r d → StandsAt m ws c xs i (some y) → TakesOut m c us r d xs i y
+    remove_at_holds {y} k s =
         let h = s.holds in
         let p = h.sound.pool in
         let e = free m lo s to_remove in
@@ -297,15 +297,15 @@ module _ (m : ℕ) (lo : 1 ≤ m) (hi : m ≤ 4) {c d : Cursor} {ws us : List �
 
     -- at size 0 settle and next leave it, and tell none
     module _ {o : Option Item} (s : StandsAt m ws c xs i o) (z : c.size ≡ 0) (w : Whole c) where
-      pub settle-off : Moves m to_settled c ws us r d → Remains c ws us r d Nothing
-      settle-off k =
+      pub settle_off : Moves m to_settled c ws us r d → Remains c ws us r d Nothing
+      settle_off k =
           let h = s.holds in
           let e = free m lo s to_settled in
           let g = settle_goes m lo hi h.sound.pool h.sound.formed c e in
           remains-at m lo hi k h.sound h.there e (λ z. true≢false (cc)) w s.standing (record { answers = g.answers; spot = g.spot ∙ at-end m lo s z })
 
-      pub next-off : Moves m to_next c ws us r d → Remains c ws us r d Nothing
-      next-off k =
+      pub next_off : Moves m to_next c ws us r d → Remains c ws us r d Nothing
+      next_off k =
           let h = s.holds in
           let p = h.sound.pool in
           let e = free m lo s to_next in
@@ -315,7 +315,7 @@ module _ (m : ℕ) (lo : 1 ≤ m) (hi : m ≤ 4) {c d : Cursor} {ws us : List �
           remains-at m lo hi k h.sound h.there e (λ z. true≢false (cc)) w s.standing (record { answers = g.answers ∙ t; spot = g.spot ∙ at-end m lo s z })
 
     -- on no pair nothing does
-    pub remove-stays : Moves m to_remove c ws us r d → StandsAt m ws c xs i none → Whole c → Remains c ws us r d Nothing
-    remove-stays k s w =
+    pub remove_stays : Moves m to_remove c ws us r d → StandsAt m ws c xs i none → Whole c → Remains c ws us r d Nothing
+    remove_stays k s w =
         let h = s.holds in
         remains_by m lo hi k h.sound (remove_none m lo hi h.sound.pool h.sound.formed c w.nodes w.places (free m lo s to_remove) s.pair)

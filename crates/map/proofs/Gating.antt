@@ -27,7 +27,7 @@ use Rattle.sound.specs.Exact.{Exact}
 use Rattle.map.specs.Gates.{Gates, Admits, Stood, Told, held_at}
 use Rattle.map.specs.declared.Pass.{Pass}
 use Rattle.map.specs.declared.Pass.TheVariants.{Open, Shut}
-use Rattle.map.proofs.Promising.{of, trees_of, blocked-place, tree_there, free-reads, stands-standing}
+use Rattle.map.proofs.Promising.{of, trees_of, blocked-place, tree_there, free_reads, stands-standing}
 
 -- what the check says no to
 module _ (ws : List ℕ) (r : Bool) (x : Exact leaf_least ws r) (e : r ≡ false) where
@@ -69,15 +69,15 @@ module _ (ws : List ℕ) (c : Cursor) (g : Pass) (x : Gates ws c.tree g) where
   admit_shut y e = shut_admits ws c y (λ p o v q. x.shut y e p o _)
 
   module _ (t : ℕ) (e : g ≡ Open t) (r : Bool) (z : Tells ws c r) where
-    pub admit-open : length c.nodes ≡ 16 → length c.places ≡ 16 → r ≡ true → Admits ws c (Open t)
-    admit-open ln lp q = record {
+    pub admit_open : length c.nodes ≡ 16 → length c.places ≡ 16 → r ≡ true → Admits ws c (Open t)
+    admit_open ln lp q = record {
       passes = λ u k. let w : t ≡ u = cc in rw (← w) (x.passes t e);
       stands = λ u k. stands-standing ws c r ln lp z q;
       shut = λ u k. absurd (let w : ◌≡◌ {A = ℕ} 0 1 = cc in omega arith);
     }
 
-    pub admit-place : r ≡ false → Admits ws c (Shut NoPlace)
-    admit-place q = shut_admits ws c NoPlace (λ p o v k. blocked-place v c p (tree_there ws t c.tree (x.passes t e) p o) k (sym (z.tells p o) ∙ q))
+    pub admit_place : r ≡ false → Admits ws c (Shut NoPlace)
+    admit_place q = shut_admits ws c NoPlace (λ p o v k. blocked-place v c p (tree_there ws t c.tree (x.passes t e) p o) k (sym (z.tells p o) ∙ q))
 
 told-kept : (o : Option Item) → true ≡ kept (told o)
 told-kept none = refl
@@ -89,22 +89,22 @@ module _ (ws : List ℕ) (c : Cursor) where
   stood_ready t z e = record { sound = z.sound; trees = e; there = rw e z.there }
 
   module _ (g : Pass) (x : Admits ws c g) where
-    pub admit-stood : (t : ℕ) → g ≡ Open t → Stood ws c
-    admit-stood t e =
+    pub admit_stood : (t : ℕ) → g ≡ Open t → Stood ws c
+    admit_stood t e =
         let y = x.passes t e in
         record { sound = y.sound; there = rw (← y.trees) y.there; standing = x.stands t e }
 
-    pub told-yes : (t : ℕ) → g ≡ Open t → Told ws c true
+    pub told_yes : (t : ℕ) → g ≡ Open t → Told ws c true
     unfolding move_from
-    told-yes t e = record {
+    told_yes t e = record {
       tells = λ p w b.
-          rw (move-done to_next c p (free-reads ws t c (x.passes t e) (x.stands t e) to_next refl p (of ws p w b)))
+          rw (move-done to_next c p (free_reads ws t c (x.passes t e) (x.stands t e) to_next refl p (of ws p w b)))
           (told-kept (pair_at (leaves (tree_of p c.tree)) (next (leaves (tree_of p c.tree)) (spot_of (tree_of p c.tree) (path_in c)))));
-      yes = λ q. admit-stood t e;
+      yes = λ q. admit_stood t e;
     }
 
-    pub told-no : (y : Refusal) → g ≡ Shut y → Told ws c false
-    told-no y e = record {
+    pub told_no : (y : Refusal) → g ≡ Shut y → Told ws c false
+    told_no y e = record {
       tells = λ p w b. rw (move-refused to_next c p y (x.shut y e p (of ws p w b) to_next refl));
       yes = λ q. absurd (true≢false (sym q));
     }

@@ -29,7 +29,7 @@ use Rattle.forest.proofs.StandLaws.{path_in_lem, length_path, stands_yes, yes_st
 use Rattle.forest.proofs.CursorCalls.{move-refused, move-done, fits_next, fits_start}
 use Rattle.path.specs.Cores.{Ready, Of, At, Standing, Goes, Sees, look_of}
 use Rattle.path.specs.declared.Look.{Look}
-use Rattle.path.proofs.Roots.{trees-are}
+use Rattle.path.proofs.Roots.{trees_are}
 use Rattle.path.proofs.Made.{fits-seek, gone_tree, gone_at}
 use Rattle.stand.specs.Runs.{Tells}
 use Rattle.moves.specs.Moves.{Steps, Seen, Back}
@@ -118,7 +118,7 @@ module _ (v : Move) (still : (t : ℕ) (s : Spot) (p : Pool) → left_pool v t s
 -- a tree number that is there
 module _ (ws : List ℕ) (t tree : ℕ) (y : Ready ws t tree) (p : Pool) (o : Of ws p) where
   pub tree_there : tree < length p.trees
-  tree_there = omega (arith, y.there, trees-are ws t tree y p o)
+  tree_there = omega (arith, y.there, trees_are ws t tree y p o)
 
 -- The calls
 
@@ -155,13 +155,13 @@ module _ (ws : List ℕ) (t : ℕ) (c : Cursor) (y : Ready ws t c.tree) where
       (λ p o. sym (g.to p o))
 
   module _ (z : Standing ws c) where
-    pub free-reads : (v : Move) → reads v ≡ true → (p : Pool) → Of ws p → blocked v c p ≡ none
-    free-reads v q p o = free_place v c p (tree_there ws t c.tree y p o) q (standing_yes ws c z p o)
+    pub free_reads : (v : Move) → reads v ≡ true → (p : Pool) → Of ws p → blocked v c p ≡ none
+    free_reads v q p o = free_place v c p (tree_there ws t c.tree y p o) q (standing_yes ws c z p o)
 
-    pub next-moves : (d : Cursor) (r : Moved) → Steps next ws c d → Seen ws d r → Moves leaf_least to_next c ws ws r.reply r.cursor
-    next-moves d r g x =
+    pub next_moves : (d : Cursor) (r : Moved) → Steps next ws c d → Seen ws d r → Moves leaf_least to_next c ws ws r.reply r.cursor
+    next_moves d r g x =
         moves_done to_next (λ t s p. refl) c r.cursor ws r.reply y.sound
-        (free-reads to_next refl)
+        (free_reads to_next refl)
         (λ p o.
         let s = spot_of (tree_of p c.tree) (path_in c) in
         let a = own_at ws c z p o in
@@ -169,17 +169,17 @@ module _ (ws : List ℕ) (t : ℕ) (c : Cursor) (y : Ready ws t c.tree) where
         sym (x.pair p (next (leaves (tree_of p c.tree)) (spot_of (tree_of p c.tree) (path_in c))) o (moved_at next fits_next ws c d g p (spot_of (tree_of p c.tree) (path_in c)) o a)))
         (λ p o. sym (x.cursor ∙ g.to p (spot_of (tree_of p c.tree) (path_in c)) o (own_at ws c z p o)))
 
-    pub prev-moves : (r : Moved) → Back ws c r → Moves leaf_least to_prev c ws ws r.reply r.cursor
-    prev-moves r x =
+    pub prev_moves : (r : Moved) → Back ws c r → Moves leaf_least to_prev c ws ws r.reply r.cursor
+    prev_moves r x =
         moves_done to_prev (λ t s p. refl) c r.cursor ws r.reply y.sound
-        (free-reads to_prev refl)
+        (free_reads to_prev refl)
         (λ p o. sym (x.pair p (spot_of (tree_of p c.tree) (path_in c)) o (own_at ws c z p o)))
         (λ p o. sym (x.cursor.to p (spot_of (tree_of p c.tree) (path_in c)) o (own_at ws c z p o)))
 
-    pub settle-moves : (d : Cursor) → Steps settle ws c d → Moves leaf_least to_settled c ws ws Nothing d
-    settle-moves d g =
+    pub settle_moves : (d : Cursor) → Steps settle ws c d → Moves leaf_least to_settled c ws ws Nothing d
+    settle_moves d g =
         moves_done to_settled (λ t s p. refl) c d ws Nothing y.sound
-        (free-reads to_settled refl)
+        (free_reads to_settled refl)
         (λ p o. refl)
         (λ p o. sym (g.to p (spot_of (tree_of p c.tree) (path_in c)) o (own_at ws c z p o)))
 

@@ -24,14 +24,14 @@ use Rattle.forest.proofs.RemoveLaws.{Removes as Gone, remove_goes, remove_none}
 use Rattle.path.specs.Cores.{Ready, Of, At, Standing, Sees, Ends, Looks, look_in, look_of}
 use Rattle.path.specs.declared.Look.{Look}
 use Rattle.path.specs.declared.Look.TheVariants.{Pair, Nothing}
-use Rattle.path.proofs.Roots.{trees-are}
+use Rattle.path.proofs.Roots.{trees_are}
 use Rattle.path.proofs.Made.{fits-seek, gone_tree, gone_standing, gone_ready}
-use Rattle.path.proofs.Foots.{looks_empty, ends-in, ends-place, ends-looks}
+use Rattle.path.proofs.Foots.{looks_empty, ends_in, ends-place, ends_looks}
 use Rattle.remove.specs.Ends.{OnPair, AskRemove, Removes}
 use Rattle.remove.specs.Keys.{AskKey, RemovesKey}
 use Rattle.remove.proofs.KeyLaws.{same_cursor}
 use Rattle.map.specs.Gates.{held_at}
-use Rattle.map.proofs.Promising.{of, own_at, free-reads, tree_there, seek-held}
+use Rattle.map.proofs.Promising.{of, own_at, free_reads, tree_there, seek-held}
 
 -- a look and the pair there
 look_some : (o : Option Item) (k v : ℕ) → Pair k v ≡ look_of o → o ≡ some (k, v)
@@ -64,7 +64,7 @@ module _ (ws : List ℕ) (t : ℕ) (c : Cursor) (y : Ready ws t c.tree) (z : Sta
   pub ask_remove : (k v : ℕ) → l ≡ Pair k v → AskRemove ws t c
   ask_remove k v e = record {
     sound = y.sound;
-    trees = λ p w b. trees-are ws t c.tree y p (of ws p w b);
+    trees = λ p w b. trees_are ws t c.tree y p (of ws p w b);
     stands = λ p w b.
         on_pair p (spot_of (tree_of p c.tree) (path_in c)) (k, v) (tree_there ws t c.tree y p (of ws p w b)) (own_at ws c z p (of ws p w b)) (pair_there k v e p (of ws p w b));
   }
@@ -73,7 +73,7 @@ module _ (ws : List ℕ) (t : ℕ) (c : Cursor) (y : Ready ws t c.tree) (z : Sta
   removed_moves k v e vs d r = record {
     sound_words = r.words;
     sound_answer = λ p w b.
-        (remove_goes leaf_least (omega arith) (omega arith) p w c (k, v) (free-reads ws t c y z to_remove refl p (of ws p w b)) (pair_there k v e p (of ws p w b))).value;
+        (remove_goes leaf_least (omega arith) (omega arith) p w c (k, v) (free_reads ws t c y z to_remove refl p (of ws p w b)) (pair_there k v e p (of ws p w b))).value;
     sound_cursor = r.cursor;
     unsound_words = λ n. absurd (n y.sound);
     unsound_answer = λ n. absurd (n y.sound);
@@ -83,7 +83,7 @@ module _ (ws : List ℕ) (t : ℕ) (c : Cursor) (y : Ready ws t c.tree) (z : Sta
   pub nothing_moves : length c.nodes ≡ most_levels → length c.places ≡ most_levels → l ≡ Nothing → Moves leaf_least to_remove c ws ws reply.Nothing c
   nothing_moves ln lp e =
       let r : (p : Pool) → Of ws p → move to_remove c p ≡ record { answer = reply.Nothing; cursor = c; pool = p } =
-      λ p o. remove_none leaf_least (omega arith) (omega arith) p o.formed c ln lp (free-reads ws t c y z to_remove refl p o) (none_there e p o) in
+      λ p o. remove_none leaf_least (omega arith) (omega arith) p o.formed c ln lp (free_reads ws t c y z to_remove refl p o) (none_there e p o) in
       record {
         sound_words = λ p w b. ap (λ q. encode q.pool) (r p (of ws p w b)) ∙ b;
         sound_answer = λ p w b. ap (λ q. q.answer) (r p (of ws p w b));
@@ -129,7 +129,7 @@ module _ (ws : List ℕ) (t tree k : ℕ) (y : Ready ws t tree) (l : Look) (o : 
   removed-calls h v e i vs q =
       let e' : l ≡ Pair k v = e ∙ ap (λ (n : ℕ). Pair n v) i in
       let goes : (p : Pool) (w : WellFormed leaf_least p) → encode p ≡ ws → Gone p d (k, v) (move to_remove d p) =
-      λ p w b. remove_goes leaf_least (omega arith) (omega arith) p w d (k, v) (free-reads ws t d ready_there stands_there to_remove refl p (of ws p w b))
+      λ p w b. remove_goes leaf_least (omega arith) (omega arith) p w d (k, v) (free_reads ws t d ready_there stands_there to_remove refl p (of ws p w b))
       (pair_there ws t d ready_there stands_there l o.sees k v e' p (of ws p w b)) in
       record {
         sound_words = λ p w b. ap encode (sym ((goes p w b).same_pool ∙ ap (λ (n : ℕ). (call (remove n k) p).pool) same_tree)) ∙ q.words d o.goes p w b;
@@ -167,11 +167,11 @@ module _ (ws : List ℕ) (t tree k r : ℕ) (y : Ready ws t tree) (w : r ≡ get
 -- the leaf n where the path of the key ends, at place e, and the look l there
 module _ (ws : List ℕ) (t tree k n e : ℕ) (y : Ready ws t tree) (d : Ends k ws tree n e) where
   pub place_few : e ≤ 7
-  place_few = omega (arith, ends-place ws t tree y k n e d, (ends-in ws t tree y k n e d).most)
+  place_few = omega (arith, ends-place ws t tree y k n e d, (ends_in ws t tree y k n e d).most)
 
   pub ask_key : (h v : ℕ) → look_in ws t n e ≡ Pair h v → AskKey ws t tree k n e
   ask_key h v q =
-      let o = ends-looks ws t tree y k n e d in
+      let o = ends_looks ws t tree y k n e d in
       record {
         ready = y;
         ends = d;

@@ -1,5 +1,7 @@
 // The public calls of the crate's map.rs: each checks the words, the tree number and the cursor, and goes along a path.
 // Behind each stands the call for words that are known to be sound, `sound_get` behind `get`.
+#![tactic(auto)]
+
 ghost use Rattle.std.specs.Prelude.{◌≡◌};
 ghost use Rattle.forest.specs.Sizes.{leaf_least};
 ghost use Rattle.forest.specs.Pools.{Sound, get, put, remove};
@@ -11,7 +13,7 @@ use forest::{Cursor, Moved, Refusal, Reply};
 use path::Look;
 
 // Whether a call may go on, with the number of trees.
-#[derive(Drop)]
+#[derive(Clone, Copy)]
 enum Pass {
     Open(usize),
     Shut(Refusal),

@@ -26,7 +26,7 @@ use Rattle.path.specs.declared.Look.TheVariants.{Pair, Nothing}
 use Rattle.path.proofs.Branches.{none_at}
 use Rattle.path.proofs.Seats.{off_is, Seat, seat, leaf_place}
 use Rattle.moves.specs.Moves.{at_first, Steps, Seen, Back}
-use Rattle.moves.proofs.Neighbours.{no-left, prev-left}
+use Rattle.moves.proofs.Neighbours.{no_left, prev_left}
 use Rattle.moves.proofs.Moving.{moved_tree, moved_at}
 use Rattle.forest.proofs.CursorCalls.{fits-prev}
 
@@ -87,7 +87,7 @@ module _ (ws : List ℕ) (t : ℕ) (c : Cursor) (y : Ready ws t c.tree) where
       go u zero k =
           let z : u.e ≡ 0 = sym (leaf_place ws t c p s u) ∙ (parts c e).1 in
           u.spot_is ∙ cc
-      go u (suc i) k = absurd (none_at _ (sym (parts c e).2 ∙ (prev-left ws t c y (parts c e).0 p s u i k).branch))
+      go u (suc i) k = absurd (none_at _ (sym (parts c e).2 ∙ (prev_left ws t c y (parts c e).0 p s u i k).branch))
 
   at_front : (p : Pool) → Of ws p → At p c (on 0 0) → at_first c ≡ true
   unfolding at_first
@@ -101,7 +101,7 @@ module _ (ws : List ℕ) (t : ℕ) (c : Cursor) (y : Ready ws t c.tree) where
         let q = u.spot_is in
         let i : u.j ≡ 0 = cc in
         let j : u.e ≡ 0 = cc in
-        simp (k, eq-eqb (get_or c.places (c.size - 1) 0) 0 (leaf_place ws t c p (on 0 0) u ∙ j), no-left ws t c y h p (on 0 0) u i)
+        simp (k, eq-eqb (get_or c.places (c.size - 1) 0) 0 (leaf_place ws t c p (on 0 0) u ∙ j), no_left ws t c y h p (on 0 0) u i)
   ]
 
   -- elsewhere the pair before is the one at the spot before

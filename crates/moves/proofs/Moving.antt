@@ -66,8 +66,8 @@ enter_at t us n e p h =
 module _ (ws : List ℕ) (t : ℕ) (c : Cursor) where
   -- the leaf's words and place, from a seat
   module _ (p : Pool) (s : Spot) (u : Seat ws t p c s) where
-    pub seat-entries : get_or ws (base t (get_or c.nodes (c.size - 1) 0)) 0 ≡ 32 + size_at u.L u.j
-    seat-entries = rw (leaf_node ws t c p s u) (leaf_entries_lem ws t c p s u) ∙ ap (32 +◌) (length-items u.L u.j)
+    pub seat_entries : get_or ws (base t (get_or c.nodes (c.size - 1) 0)) 0 ≡ 32 + size_at u.L u.j
+    seat_entries = rw (leaf_node ws t c p s u) (leaf_entries_lem ws t c p s u) ∙ ap (32 +◌) (length-items u.L u.j)
 
     seat-spot : (f : Row → Spot → Spot) → f (leaves (tree_of p c.tree)) s ≡ f u.L (on u.j u.e)
     seat-spot f = rw (row_is ws t c p s u, u.spot_is)
@@ -83,31 +83,31 @@ module _ (ws : List ℕ) (t : ℕ) (c : Cursor) where
 
   module _ (y : Ready ws t c.tree) (h : 1 ≤ c.size) (f : Row → Spot → Spot) where
     -- to place k of the leaf
-    pub step-entry : (k : ℕ) (r : Cursor) → r ≡ entered c (c.size - 1) k →
+    pub step_entry : (k : ℕ) (r : Cursor) → r ≡ entered c (c.size - 1) k →
         ((L : Row) (j e : ℕ) → get_or ws (base t (get_or c.nodes (c.size - 1) 0)) 0 ≡ 32 + size_at L j → get_or c.places (c.size - 1) 0 ≡ e → f L (on j e) ≡ on j k) → Steps f ws c r
-    step-entry k r q g = record {
+    step_entry k r q g = record {
       to = λ p s o a.
           let u = seat ws t c y h p s o a in
-          let e : f (leaves (tree_of p c.tree)) s ≡ on u.j k = seat-spot p s u f ∙ (g u.L u.j u.e (seat-entries p s u) (leaf_place ws t c p s u)) in
+          let e : f (leaves (tree_of p c.tree)) s ≡ on u.j k = seat-spot p s u f ∙ (g u.L u.j u.e (seat_entries p s u) (leaf_place ws t c p s u)) in
           q ∙ entered-path p s u k ∙ ap (cursor_at c.tree) (sym (ap (path_of (tree_of p c.tree)) e ∙ ap (λ (x : Tree). path_of x (on u.j k)) u.tree_is));
     }
 
     -- nowhere
-    pub step-none : ((L : Row) (j e : ℕ) → get_or ws (base t (get_or c.nodes (c.size - 1) 0)) 0 ≡ 32 + size_at L j → get_or c.places (c.size - 1) 0 ≡ e → f L (on j e) ≡ on j e) → Steps f ws c c
-    step-none g = record {
+    pub step_none : ((L : Row) (j e : ℕ) → get_or ws (base t (get_or c.nodes (c.size - 1) 0)) 0 ≡ 32 + size_at L j → get_or c.places (c.size - 1) 0 ≡ e → f L (on j e) ≡ on j e) → Steps f ws c c
+    step_none g = record {
       to = λ p s o a.
           let u = seat ws t c y h p s o a in
-          let e : f (leaves (tree_of p c.tree)) s ≡ s = seat-spot p s u f ∙ g u.L u.j u.e (seat-entries p s u) (leaf_place ws t c p s u) ∙ sym u.spot_is in
+          let e : f (leaves (tree_of p c.tree)) s ≡ s = seat-spot p s u f ∙ g u.L u.j u.e (seat_entries p s u) (leaf_place ws t c p s u) ∙ sym u.spot_is in
           sym (ap (λ (v : Spot). cursor_at c.tree (path_of (tree_of p c.tree) v)) e ∙ a.same);
     }
 
     -- where another move goes
-    pub step-as : (g : Row → Spot → Spot) (r : Cursor) → Steps g ws c r →
+    pub step_as : (g : Row → Spot → Spot) (r : Cursor) → Steps g ws c r →
         ((L : Row) (j e : ℕ) → get_or ws (base t (get_or c.nodes (c.size - 1) 0)) 0 ≡ 32 + size_at L j → get_or c.places (c.size - 1) 0 ≡ e → f L (on j e) ≡ g L (on j e)) → Steps f ws c r
-    step-as g r x q = record {
+    step_as g r x q = record {
       to = λ p s o a.
           let u = seat ws t c y h p s o a in
-          let e : f (leaves (tree_of p c.tree)) s ≡ g (leaves (tree_of p c.tree)) s = seat-spot p s u f ∙ q u.L u.j u.e (seat-entries p s u) (leaf_place ws t c p s u) ∙ sym (seat-spot p s u g) in
+          let e : f (leaves (tree_of p c.tree)) s ≡ g (leaves (tree_of p c.tree)) s = seat-spot p s u f ∙ q u.L u.j u.e (seat_entries p s u) (leaf_place ws t c p s u) ∙ sym (seat-spot p s u g) in
           x.to p s o a ∙ ap (λ (v : Spot). cursor_at c.tree (path_of (tree_of p c.tree) v)) (sym e);
     }
 

@@ -121,8 +121,8 @@ module _ (ws : List ℕ) (t : ℕ) (c : Cursor) (y : Ready ws t c.tree) (h : 1 �
     abbrev f : ℕ
     f = 15 - length u.Rs
 
-    pub above-leaf : c.size - 1 ≡ length u.Rs
-    above-leaf = omega (arith, seat-size ws t c p s u)
+    pub above_leaf : c.size - 1 ≡ length u.Rs
+    above_leaf = omega (arith, seat-size ws t c p s u)
 
     agrees : Agrees ws t c.nodes c.places (path_s ws t c p s u)
     agrees = record { node = λ l k. seat-node ws t c p s u l k; place = λ l k. seat-place ws t c p s u l k }
@@ -140,28 +140,28 @@ module _ (ws : List ℕ) (t : ℕ) (c : Cursor) (y : Ready ws t c.tree) (h : 1 �
         let e : descend First (suc (15 - length u.Rs)) ws t (get_or (nums u.L) (suc u.j) 0) ≡ (get_or (nums u.L) (suc u.j) 0, 0) ∷ [] =
         leaf_step ws t First (15 - length u.Rs) u.L u.laid.leaf (suc u.j) k ∙
         ap (λ (x : ℕ). (get_or (nums u.L) (suc u.j) 0, x) ∷ []) (land_first (leaf_words (items_at u.L (suc u.j)))) in
-        rw above-leaf (rw e at g)
+        rw above_leaf (rw e at g)
 
-    pub prev-left : (i : ℕ) → u.j ≡ suc i → Left ws t c.nodes c.places (c.size - 1) (path_s ws t c p s u) (path_of (u.L ∷ u.Rs) (leaf_end u.L i))
-    prev-left i q =
+    pub prev_left : (i : ℕ) → u.j ≡ suc i → Left ws t c.nodes c.places (c.size - 1) (path_s ws t c p s u) (path_of (u.L ∷ u.Rs) (leaf_end u.L i))
+    prev_left i q =
         let a = u.laid.few in
         let b = u.inside in
         let g = left_some ws t c.nodes c.places u.L u.Rs u.j i (suc (15 - length u.Rs)) ((get_or (nums u.L) u.j 0, u.e) ∷ []) u.laid.good.2 u.laid.inner (omega arith) (omega arith) agrees q b in
         let e : descend Last (suc (15 - length u.Rs)) ws t (get_or (nums u.L) i 0) ≡ (get_or (nums u.L) i 0, size_at u.L i - 1) ∷ [] =
         leaf_step ws t Last (15 - length u.Rs) u.L u.laid.leaf i (omega arith) ∙
         ap (λ (x : ℕ). (get_or (nums u.L) i 0, x) ∷ []) (land_last (items_at u.L i) ∙ ap (◌- 1) (length-items u.L i)) in
-        rw above-leaf (rw e at g)
+        rw above_leaf (rw e at g)
 
     no-right : length u.L ≤ suc u.j → right_branch ws t c.nodes c.places (c.size - 1) ≡ branch.Nothing
     no-right k =
         let a = u.laid.few in
         let b = u.inside in
-        rw above-leaf (right_none ws t c.nodes c.places u.L u.Rs u.j ((get_or (nums u.L) u.j 0, u.e) ∷ []) u.laid.good.2 u.laid.inner (omega arith) agrees (omega arith))
+        rw above_leaf (right_none ws t c.nodes c.places u.L u.Rs u.j ((get_or (nums u.L) u.j 0, u.e) ∷ []) u.laid.good.2 u.laid.inner (omega arith) agrees (omega arith))
 
-    pub no-left : u.j ≡ 0 → left_branch c.places (c.size - 1) ≡ branch.Nothing
-    no-left k =
+    pub no_left : u.j ≡ 0 → left_branch c.places (c.size - 1) ≡ branch.Nothing
+    no_left k =
         let a = u.laid.few in
-        rw above-leaf (left_none ws t c.nodes c.places u.L u.Rs u.j ((get_or (nums u.L) u.j 0, u.e) ∷ []) u.laid.good.2 u.laid.inner (omega arith) agrees k)
+        rw above_leaf (left_none ws t c.nodes c.places u.L u.Rs u.j ((get_or (nums u.L) u.j 0, u.e) ∷ []) u.laid.good.2 u.laid.inner (omega arith) agrees k)
 
     -- where a spot comes to
     next-spot : next_leaf (leaves (tree_of p c.tree)) s ≡ leaf_start u.L (suc u.j)
@@ -210,7 +210,7 @@ module _ (ws : List ℕ) (t : ℕ) (c : Cursor) (y : Ready ws t c.tree) (h : 1 �
               let v : l < c.size - 1 = rw x g.above in
               let m : step_right ws t c.nodes c.places (path_s ws t c p s u) l ≡ path_of (u.L ∷ u.Rs) (on (suc u.j) 0) = rw x g.same in
               let i = link_word_at ws (base t (get_or c.nodes l 0)) (get_or c.places l 0 + 1) (omega arith) in
-              q ∙ (rw (← i) at (branch_at First ws t c l (get_or c.places l 0 + 1) (path_s ws t c p s u) u.same (omega (arith, above-leaf p s u, long_path p s u)) (omega (arith, u.laid.few, long_path p s u)))) ∙ ap (cursor_at c.tree) (m ∙ sym (on-path p s u (ltb-true _ _ k)))
+              q ∙ (rw (← i) at (branch_at First ws t c l (get_or c.places l 0 + 1) (path_s ws t c p s u) u.same (omega (arith, above_leaf p s u, long_path p s u)) (omega (arith, u.laid.few, long_path p s u)))) ∙ ap (cursor_at c.tree) (m ∙ sym (on-path p s u (ltb-true _ _ k)))
         ];
   }
 
@@ -220,7 +220,7 @@ module _ (ws : List ℕ) (t : ℕ) (c : Cursor) (y : Ready ws t c.tree) (h : 1 �
     where
       go : (p : Pool) (s : Spot) → At p c s → (u : Seat ws t p c s) (i : ℕ) → u.j ≡ i → c ≡ cursor_at c.tree (path_of (tree_of p c.tree) (prev_leaf (leaves (tree_of p c.tree)) s))
       go p s a u zero k = sym (ap (λ (v : Spot). cursor_at c.tree (path_of (tree_of p c.tree) v)) (first_spot p s u k) ∙ a.same)
-      go p s a u (suc i) k = absurd (none_at _ (sym z ∙ e ∙ (prev-left p s u i k).branch))
+      go p s a u (suc i) k = absurd (none_at _ (sym z ∙ e ∙ (prev_left p s u i k).branch))
 
   -- a step to the left at level l
   pub prev_some : (l : ℕ) (r : Cursor) (b : Branch) → b ≡ left_branch c.places (c.size - 1) → b ≡ branch.At l → get_or c.places l 0 < 8 →
@@ -228,11 +228,11 @@ module _ (ws : List ℕ) (t : ℕ) (c : Cursor) (y : Ready ws t c.tree) (h : 1 �
   prev_some l r b e z w q = record { to = λ p s o a. go p s (seat ws t c y h p s o a) (seat ws t c y h p s o a).j refl }
     where
       go : (p : Pool) (s : Spot) (u : Seat ws t p c s) (i : ℕ) → u.j ≡ i → r ≡ cursor_at c.tree (path_of (tree_of p c.tree) (prev_leaf (leaves (tree_of p c.tree)) s))
-      go p s u zero k = absurd (none_at l (sym (no-left p s u k) ∙ sym e ∙ z))
+      go p s u zero k = absurd (none_at l (sym (no_left p s u k) ∙ sym e ∙ z))
       go p s u (suc i) k =
-          let g = prev-left p s u i k in
+          let g = prev_left p s u i k in
           let x = at_level l g.at (sym z ∙ e ∙ g.branch) in
           let v : l < c.size - 1 = rw x g.above in
           let m : step_left ws t c.nodes c.places (path_s ws t c p s u) l ≡ path_of (u.L ∷ u.Rs) (leaf_end u.L i) = rw x g.same in
           let j = link_word_at ws (base t (get_or c.nodes l 0)) (get_or c.places l 0 - 1) (omega arith) in
-          q ∙ (rw (← j) at (branch_at Last ws t c l (get_or c.places l 0 - 1) (path_s ws t c p s u) u.same (omega (arith, above-leaf p s u, long_path p s u)) (omega (arith, u.laid.few, long_path p s u)))) ∙ ap (cursor_at c.tree) (m ∙ sym (back-path p s u i k))
+          q ∙ (rw (← j) at (branch_at Last ws t c l (get_or c.places l 0 - 1) (path_s ws t c p s u) u.same (omega (arith, above_leaf p s u, long_path p s u)) (omega (arith, u.laid.few, long_path p s u)))) ∙ ap (cursor_at c.tree) (m ∙ sym (back-path p s u i k))

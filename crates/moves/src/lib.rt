@@ -1,4 +1,6 @@
 // Moves of a cursor, as the crate's path.rs has them: to the next leaf and the one before, to the next pair and the one before.
+#![tactic(auto)]
+
 ghost use Rattle.std.specs.Prelude.{◌≡◌, ◌+◌, ◌-◌, ◌≤◌, ◌<◌, get_or};
 ghost use Rattle.forest.specs.Sizes.{most_trees, most_levels};
 ghost use Rattle.forest.specs.Cursors.{settle, next, prev};

@@ -89,16 +89,16 @@ module _ (words : List Item → List ℕ) (a i : ℕ) (packs : Packs words a i) 
       split_eq r.0 r.1 r.2 ∙ ap (λ (j : ℕ). split_of words j us) e
 
   module _ (c : ℕ) where
-    pub balance-all : (w : List ℕ) → 1 ≤ length us → length us ≤ c → w ≡ packed a i s → record { all = true; left = pad 16 []; right = w; key = 0 } ≡ balance_of words c us
+    pub balance_all : (w : List ℕ) → 1 ≤ length us → length us ≤ c → w ≡ packed a i s → record { all = true; left = pad 16 []; right = w; key = 0 } ≡ balance_of words c us
     unfolding balance_of
-    balance-all w some h p =
+    balance_all w some h p =
         simp (le-leb (length us) c h)
         (ap (λ (r : List ℕ). record { all = true; left = pad 16 []; right = r; key = 0 }) (p ∙ packs s us held some))
 
-    pub balance-share : (h : Halves) (left right : List ℕ) → h ≡ half_items s (s.count - s.count / 2) → length us ≤ 16 → 1 ≤ c → c < length us → left ≡ packed a i h.left → right ≡ packed a i h.right →
+    pub balance_share : (h : Halves) (left right : List ℕ) → h ≡ half_items s (s.count - s.count / 2) → length us ≤ 16 → 1 ≤ c → c < length us → left ≡ packed a i h.left → right ≡ packed a i h.right →
         record { all = false; left = left; right = right; key = h.key } ≡ balance_of words c us
     unfolding balance_of
-    balance-share h left right d few some more p q =
+    balance_share h left right d few some more p q =
         let e : s.count - s.count / 2 ≡ keep us = ap (λ (o : Items). o.count - o.count / 2) held in
         let r = halves_packed (keep us) h left right (d ∙ ap (half_items s) e) few (omega arith) (omega arith) p q in
         simp (lt-leb (length us) c more) (balance_eq r.0 r.1 r.2)

@@ -5,7 +5,7 @@ ghost use Rattle.forest.specs.Lists.{remove_at, pad};
 ghost use Rattle.node.specs.Nodes.{with_item, less_item, with_key, both_items, part_items, half_items};
 
 // The items of one node, or of two joined: keys, and values or children. Past the last all is 0.
-#[derive(Drop)]
+#[derive(Clone, Copy)]
 pub struct Items {
     pub count: usize,
     pub keys: [u32; 16],
@@ -13,7 +13,7 @@ pub struct Items {
 }
 
 // Items in two, and the first key of the right ones.
-#[derive(Drop)]
+#[derive(Clone, Copy)]
 pub struct Halves {
     pub left: Items,
     pub right: Items,

@@ -1,4 +1,6 @@
 // One node of a tree, as its sixteen words by value.
+#![tactic(auto)]
+
 ghost use Rattle.std.specs.Prelude.{◌≡◌, [], ◌∷◌, ◌++◌, suc, ◌+◌, ◌-◌, ◌≤◌, ◌<◌, get_or};
 ghost use Rattle.forest.specs.Lists.{insert_at};
 ghost use Rattle.forest.specs.Rows.{keeps};
@@ -10,7 +12,7 @@ pub mod items;
 use items::{Items, append, copied, cut_at, insert, rekey, remove};
 
 // How a node stands that lost an entry.
-#[derive(Drop)]
+#[derive(Clone, Copy)]
 pub enum Removed {
     // In good shape.
     Healthy,
@@ -23,7 +25,7 @@ pub enum Removed {
 }
 
 // A full node with one entry more, in two, and the right half's first key.
-#[derive(Drop)]
+#[derive(Clone, Copy)]
 pub struct SplitOff {
     pub left: [u32; 16],
     pub right: [u32; 16],
@@ -31,14 +33,14 @@ pub struct SplitOff {
 }
 
 // A node that lost an entry.
-#[derive(Drop)]
+#[derive(Clone, Copy)]
 pub struct Cut {
     pub words: [u32; 16],
     pub status: Removed,
 }
 
 // Two nodes after balancing: all is on the right, or each has half and `key` is the right one's first.
-#[derive(Drop)]
+#[derive(Clone, Copy)]
 pub struct Balanced {
     pub all: bool,
     pub left: [u32; 16],
@@ -77,7 +79,7 @@ pub fn leaf(key: u32, value: u32) -> [u32; 16]
 }
 
 // The pairs of a leaf.
-fn leaf_items_lem(w: [u32; 16]) -> Items
+fn leaf_items(w: [u32; 16]) -> Items
     requires { Leaf w }
     ensures { (result.count ≡ get_or w 0 0 - 32) × (result ≡ items_of (leaf_pairs w)) }
 {
@@ -150,7 +152,7 @@ pub fn leaf_split(w: [u32; 16], at: usize, key: u32, value: u32) -> SplitOff
     requires { Leaf w × (get_or w 0 0 ≡ 39) × (at ≤ 7) }
     ensures { result ≡ split_of leaf_words (keeps 7 at) (insert_at at (key, value) (leaf_pairs w)) }
 {
-    let items = insert(leaf_items_lem(w), at, key, value);
+    let items = insert(leaf_items(w), at, key, value);
     let l = split_pos(7, at);
     let parts = cut_at(items, l);
     let left = parts.left;
@@ -202,7 +204,7 @@ pub fn leaf_remove(w: [u32; 16], at: usize) -> Cut
     requires { Leaf w × (at < get_or w 0 0 - 32) }
     ensures { (result.words ≡ leaf_cut w at) × (result.status ≡ status_of 7 at (get_or w 0 0 - 33)) }
 {
-    let items = remove(leaf_items_lem(w), at);
+    let items = remove(leaf_items(w), at);
     let left = items.count;
     let how = status(at, left, 7);
     if left == 0 {
@@ -242,7 +244,7 @@ pub fn leaf_balance(w: [u32; 16], v: [u32; 16]) -> Balanced
     requires { Leaf w × Leaf v }
     ensures { result ≡ balance_of leaf_words 7 (leaf_pairs w ++ leaf_pairs v) }
 {
-    let items = append(leaf_items_lem(w), leaf_items_lem(v));
+    let items = append(leaf_items(w), leaf_items(v));
     let n = items.count;
     if n <= 7 {
         return Balanced {

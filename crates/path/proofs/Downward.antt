@@ -7,7 +7,6 @@ use lib.ListN.{length, take, get_or, length-map}
 use borrow.Author.Tests.{lt-ltb, le-leb, lt-leb}
 use Rattle.forest.specs.Sizes.{leaf_least, leaf_cap}
 use Rattle.forest.specs.Lists.{sum, parent, offset}
-use Rattle.forest.specs.Pairs.{place}
 use Rattle.forest.specs.Rows.{Row, size, front, fronts, sizes, nums, items_at, Tower}
 use Rattle.forest.specs.Trees.{leaf_of, leaf_items}
 use Rattle.forest.specs.Pools.{leaf_words, inner_words, root_above}

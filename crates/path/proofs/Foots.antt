@@ -17,7 +17,7 @@ use Rattle.path.specs.declared.Way.{Way}
 use Rattle.path.specs.declared.Way.TheVariants.{Key}
 use Rattle.path.proofs.Steps.{first_word, link_word_at}
 use Rattle.path.proofs.CursorWords.{node_at_lem, place_at}
-use Rattle.path.proofs.Roots.{down_path, goes-seek, goes-empty}
+use Rattle.path.proofs.Roots.{down_path, goes-seek, goes_empty}
 use Rattle.path.proofs.Seats.{Leafy, leafy, leaf_in, seat, looked, off_spot}
 use Rattle.path.proofs.Made.{fits-seek, gone_standing}
 
@@ -78,7 +78,7 @@ module _ (ws : List ℕ) (t tree : ℕ) (y : Ready ws t tree) (k : ℕ) where
   pub looks_empty : get_or ws (1 + tree) 0 ≡ 0 → Looks k ws tree Nothing
   looks_empty z = record {
     at = cursor_at tree [];
-    goes = goes-empty ws t tree y (seek k) refl (cursor_at tree []) z refl;
+    goes = goes_empty ws t tree y (seek k) refl (cursor_at tree []) z refl;
     sees = record { sees = λ p s o q. ap look_of (sym (off_spot (cursor_at tree []) p s refl q)) };
   }
 
@@ -115,14 +115,14 @@ module _ (ws : List ℕ) (t tree : ℕ) (y : Ready ws t tree) (k : ℕ) where
       made-place = place_at tree way_down (length way_down - 1) (omega (arith, made-leafy.deep)) ∙ ap (λ (q : ℕ × ℕ). q.1) made-last ∙ ap (λ (m : ℕ). land_of (Key k) (block ws t m)) (sym f)
 
       -- the leaf, as code that reads it needs it
-      pub foot-in : LeafIn ws t n
-      foot-in = rw (← made-node) (leaf_in ws t made made-leafy)
+      pub foot_in : LeafIn ws t n
+      foot_in = rw (← made-node) (leaf_in ws t made made-leafy)
 
-      pub foot-rises : KeysRise (keys_of 32 (block ws t n))
-      foot-rises = rw (← made-node) made-leafy.rise
+      pub foot_rises : KeysRise (keys_of 32 (block ws t n))
+      foot_rises = rw (← made-node) made-leafy.rise
 
-      pub foot-ends : (e : ℕ) → e ≡ land_of (Key k) (block ws t n) → Ends k ws tree n e
-      foot-ends e g = record { path = way_down; goes = made-goes; some = made_some; node = made-node; place = made-place ∙ sym g }
+      pub foot_ends : (e : ℕ) → e ≡ land_of (Key k) (block ws t n) → Ends k ws tree n e
+      foot_ends e g = record { path = way_down; goes = made-goes; some = made_some; node = made-node; place = made-place ∙ sym g }
 
   -- what the end of a path gives
   module _ (n e : ℕ) (d : Ends k ws tree n e) where
@@ -135,14 +135,14 @@ module _ (ws : List ℕ) (t tree : ℕ) (y : Ready ws t tree) (k : ℕ) where
     ended-leafy : Leafy ws t ended
     ended-leafy = leafy ws t ended y ended-standing d.some
 
-    pub ends-in : LeafIn ws t n
-    ends-in = rw (← d.node) (leaf_in ws t ended ended-leafy)
+    pub ends_in : LeafIn ws t n
+    ends_in = rw (← d.node) (leaf_in ws t ended ended-leafy)
 
     pub ends-place : e + 32 ≤ get_or ws (base t n) 0
     ends-place = rw (← d.node, ← d.place) ended-leafy.place
 
-    pub ends-looks : Looks k ws tree (look_in ws t n e)
-    ends-looks = record {
+    pub ends_looks : Looks k ws tree (look_in ws t n e)
+    ends_looks = record {
       at = ended;
       goes = d.goes;
       sees = record { sees = λ p s o q. looked ws t ended p s (seat ws t ended y d.some p s o q) n e d.node d.place };

@@ -1,7 +1,7 @@
 -- PROOFS. Where going down comes to, a cursor can stand
 use mathlib.Core.Path.{◌≡◌, sym, ap, ◌∙◌}
 use mathlib.Core.List.{List}
-use Prim.Native.Nat.{ℕ, ◌-◌}
+use Prim.Native.Nat.{ℕ}
 use native.Mathlib.Omega.{arith}
 use Rattle.forest.specs.Sizes.{leaf_least}
 use Rattle.forest.specs.Rows.{Row, Tree, Good}

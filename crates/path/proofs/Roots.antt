@@ -29,21 +29,21 @@ module _ (ws : List ℕ) (t tree : ℕ) (y : Ready ws t tree) where
   root-place = omega (arith, sound_length leaf_least ws y.sound, y.trees, y.there)
 
   module _ (p : Pool) (o : Of ws p) where
-    pub trees-are : t ≡ length p.trees
-    trees-are = y.trees ∙ ap (λ (u : List ℕ). get_or u 0 0) (sym o.same) ∙ first_word p
+    pub trees_are : t ≡ length p.trees
+    trees_are = y.trees ∙ ap (λ (u : List ℕ). get_or u 0 0) (sym o.same) ∙ first_word p
 
     pub root_is : get_or ws (1 + tree) 0 ≡ root (tree_of p tree)
     root_is =
         let z : 1 + tree ≡ suc tree = omega arith in
-        let h : tree < length p.trees = omega (arith, y.there, trees-are) in
+        let h : tree < length p.trees = omega (arith, y.there, trees_are) in
         ap (λ (i : ℕ). get_or ws i 0) z ∙ ap (λ (u : List ℕ). get_or u (suc tree) 0) (sym o.same) ∙ root_word p tree h
 
-    pub lies-there : (L : Row) (Rs : List Row) → tree_of p tree ≡ L ∷ Rs → Laid ws t L Rs
-    lies-there L Rs e = rw (← o.same, trees-are) (laid p o.formed tree L Rs e)
+    pub lies_there : (L : Row) (Rs : List Row) → tree_of p tree ≡ L ∷ Rs → Laid ws t L Rs
+    lies_there L Rs e = rw (← o.same, trees_are) (laid p o.formed tree L Rs e)
 
     -- the root of a tree with leaves is no 0
     pub some_root : (L : Row) (Rs : List Row) → tree_of p tree ≡ L ∷ Rs → 1 ≤ root_above L Rs
-    some_root L Rs e = (deep_lies ws t 1 (root_above L Rs) (omega arith) (tree_deep ws t L Rs (lies-there L Rs e) 1)).some
+    some_root L Rs e = (deep_lies ws t 1 (root_above L Rs) (omega arith) (tree_deep ws t L Rs (lies_there L Rs e) 1)).some
 
   pub the_pool : Of ws y.sound.pool
   the_pool = record { formed = y.sound.formed; same = y.sound.same }
@@ -54,7 +54,7 @@ module _ (ws : List ℕ) (t tree : ℕ) (y : Ready ws t tree) where
     where
       go : (x : Tree) → tree_of y.sound.pool tree ≡ x → Deep f ws t (get_or ws (1 + tree) 0)
       go [] e = absurd (z (root_is y.sound.pool the_pool ∙ ap root e))
-      go (L ∷ Rs) e = rw (root_is y.sound.pool the_pool, e) (tree_deep ws t L Rs (lies-there y.sound.pool the_pool L Rs e) f)
+      go (L ∷ Rs) e = rw (root_is y.sound.pool the_pool, e) (tree_deep ws t L Rs (lies_there y.sound.pool the_pool L Rs e) f)
 
   -- the path from the root, below no levels
   pub down_path : (way : Way) → extended (cursor_at tree []) (descend way 16 ws t (get_or ws (1 + tree) 0)) ≡ cursor_at tree (descend way 16 ws t (get_or ws (1 + tree) 0))
@@ -62,8 +62,8 @@ module _ (ws : List ℕ) (t tree : ℕ) (y : Ready ws t tree) where
 
   -- a spot of each leaf row, off the end in the empty tree
   module _ (f : Row → Spot) (none : f [] ≡ off) where
-    pub goes-empty : (r : Cursor) → get_or ws (1 + tree) 0 ≡ 0 → r ≡ cursor_at tree [] → Goes f ws tree r
-    goes-empty r z e = record { to = λ p o. e ∙ ap (cursor_at tree) (go p o (tree_of p tree) refl) }
+    pub goes_empty : (r : Cursor) → get_or ws (1 + tree) 0 ≡ 0 → r ≡ cursor_at tree [] → Goes f ws tree r
+    goes_empty r z e = record { to = λ p o. e ∙ ap (cursor_at tree) (go p o (tree_of p tree) refl) }
       where
         go : (p : Pool) → Of ws p → (x : Tree) → tree_of p tree ≡ x → [] ≡ path_of (tree_of p tree) (f (leaves (tree_of p tree)))
         go p o [] q = rw (q, none)
@@ -77,7 +77,7 @@ module _ (ws : List ℕ) (t tree : ℕ) (y : Ready ws t tree) where
         go : (p : Pool) → Of ws p → (u : Tree) → tree_of p tree ≡ u → r ≡ cursor_at tree (path_of (tree_of p tree) (f (leaves (tree_of p tree))))
         go p o [] q = absurd (z (root_is p o ∙ ap root q))
         go p o (L ∷ Rs) q =
-            let l = lies-there p o L Rs q in
+            let l = lies_there p o L Rs q in
             let k : length Rs + suc (15 - length Rs) ≡ 16 = omega (arith, l.few) in
             let g = rw k at (d L Rs l) in
             let path-is : descend way 16 ws t (get_or ws (1 + tree) 0) ≡ path_of (tree_of p tree) (f (leaves (tree_of p tree))) = rw (root_is p o, q) g in

@@ -1,7 +1,7 @@
 -- PROOFS. A cursor that stands in a leaf: its path, and what each of its levels holds
 use mathlib.Core.Path.{◌≡◌, refl, sym, ap, ◌∙◌}
 use mathlib.Core.List.{List, [], ◌∷◌, ◌++◌}
-use mathlib.Core.Option.{none, some}
+use mathlib.Core.Option.{none}
 use Prim.Native.Nat.{ℕ, ◌+◌, ◌-◌, ◌≤◌, ◌<◌}
 use native.Mathlib.Omega.{arith}
 use lib.ListN.{length, take, get_or}
@@ -9,7 +9,7 @@ use lib.Dec.{ltb}
 use lib.Seq.{get_or_at, take_at}
 use Rattle.forest.specs.Sizes.{leaf_least, leaf_cap}
 use Rattle.forest.specs.Lists.{parent, offset}
-use Rattle.forest.specs.Rows.{Row, Tree, size, sizes, nums, items_at, Tower}
+use Rattle.forest.specs.Rows.{Row, Tree, sizes, nums, items_at, Tower}
 use Rattle.forest.specs.Pools.{Pool, tree_of, leaf_words, inner_words}
 use Rattle.forest.specs.Cursors.{Spot, off, on, leaves, size_at, Fits, pair_at, Path, path_up, cursor_at}
 use Rattle.forest.specs.declared.Cursor.{Cursor}
@@ -22,7 +22,7 @@ use Rattle.path.proofs.NodeWords.{pair_words}
 use Rattle.path.proofs.Laid.{Laid, RowIn, RowsIn, Rises, leaves_rise, rises_up, AllDeep, leaf_deep, inner_deep, size_bounds, ParentRow, parent_row, parent_in, offset_in, leaf_first, inner_first}
 use Rattle.path.proofs.CursorWords.{node_at_lem, place_at}
 use Rattle.path.proofs.Steps.{first_word, key_word_at, link_word_at, lies_of}
-use Rattle.path.proofs.Roots.{lies-there, the_pool}
+use Rattle.path.proofs.Roots.{lies_there, the_pool}
 use Rattle.forest.proofs.StandLaws.{length-path_up}
 use Rattle.forest.proofs.CursorLaws.{nth_none}
 
@@ -114,7 +114,7 @@ seat ws t c y h p (on j e) o a = go (tree_of p c.tree) refl
           e = e;
           tree_is = q;
           spot_is = refl;
-          laid = lies-there ws t c.tree y p o L Rs q;
+          laid = lies_there ws t c.tree y p o L Rs q;
           inside = f.0;
           most = f.1;
           same = sym g;

@@ -53,8 +53,8 @@ module _ (ws : List ℕ) (b : ℕ) where
 
     -- they rise, and a search in them finds what one in the keys of the node does
     module _ (r : KeysRise (keys_of tag (block_at ws b))) where
-      pub lent-asks : b + 16 ≤ length ws → ((length (take (b + 8 - (b + 1)) (drop (b + 1) ws)) ≡ 7) × (get_or ws b 0 - tag ≤ 7)) × KeysRise (lent tag)
-      lent-asks l = ((length-take-le (b + 8 - (b + 1)) (drop (b + 1) ws) (simp length-drop (omega arith)) ∙ omega arith, omega arith), rw lent_is r)
+      pub lent_asks : b + 16 ≤ length ws → ((length (take (b + 8 - (b + 1)) (drop (b + 1) ws)) ≡ 7) × (get_or ws b 0 - tag ≤ 7)) × KeysRise (lent tag)
+      lent_asks l = ((length-take-le (b + 8 - (b + 1)) (drop (b + 1) ws) (simp length-drop (omega arith)) ∙ omega arith, omega arith), rw lent_is r)
 
       found_here : (k i : ℕ) (x : Found) → x ≡ searched k (lent tag) → x ≡ Here i → Stops k (keys_of tag (block_at ws b)) i (i + 1)
       found_here k i x e q = stops_here k (keys_of tag (block_at ws b)) i r (sym q ∙ e ∙ ap (searched k) lent_is)
@@ -82,31 +82,31 @@ module _ (ws : List ℕ) (b : ℕ) where
 
   -- each return, with the way and the answer of the search that the code has matched
   module _ (h : get_or ws b 0 ≤ 23) (r : KeysRise (keys_of 16 (block_at ws b))) (way : Way) where
-    pub turns-here : (k i : ℕ) (x : Found) → way ≡ Key k → x ≡ searched k (lent 16) → x ≡ Here i → Turns way (i + 1)
-    turns-here k i x m e q = turns_key way k i (i + 1) m (found_here 16 h r k i x e q)
+    pub turns_here : (k i : ℕ) (x : Found) → way ≡ Key k → x ≡ searched k (lent 16) → x ≡ Here i → Turns way (i + 1)
+    turns_here k i x m e q = turns_key way k i (i + 1) m (found_here 16 h r k i x e q)
 
-    pub turns-absent : (k i : ℕ) (x : Found) → way ≡ Key k → x ≡ searched k (lent 16) → x ≡ Absent i → Turns way i
-    turns-absent k i x m e q = turns_key way k i i m (found-absent 16 h r k i x e q)
+    pub turns_absent : (k i : ℕ) (x : Found) → way ≡ Key k → x ≡ searched k (lent 16) → x ≡ Absent i → Turns way i
+    turns_absent k i x m e q = turns_key way k i i m (found-absent 16 h r k i x e q)
 
   module _ (h : get_or ws b 0 ≤ 39) (r : KeysRise (keys_of 32 (block_at ws b))) (way : Way) where
     pub lands_here : (k i : ℕ) (x : Found) → way ≡ Key k → x ≡ searched k (lent 32) → x ≡ Here i → Lands way i
     lands_here k i x m e q = lands_key way k i (i + 1) m (found_here 32 h r k i x e q)
 
-    pub lands-absent : (k i : ℕ) (x : Found) → way ≡ Key k → x ≡ searched k (lent 32) → x ≡ Absent i → Lands way i
-    lands-absent k i x m e q = lands_key way k i i m (found-absent 32 h r k i x e q)
+    pub lands_absent : (k i : ℕ) (x : Found) → way ≡ Key k → x ≡ searched k (lent 32) → x ≡ Absent i → Lands way i
+    lands_absent k i x m e q = lands_key way k i i m (found-absent 32 h r k i x e q)
 
   module _ (way : Way) where
-    pub turns-first : way ≡ First → Turns way 0
+    pub turns_first : way ≡ First → Turns way 0
     unfolding turn_of
-    turns-first e = rw e (refl, omega arith)
+    turns_first e = rw e (refl, omega arith)
 
-    pub turns-last : way ≡ Last → Turns way (get_or ws b 0 - 16)
+    pub turns_last : way ≡ Last → Turns way (get_or ws b 0 - 16)
     unfolding turn_of
-    turns-last e = rw e (rw first_word, omega arith)
+    turns_last e = rw e (rw first_word, omega arith)
 
-    pub lands-first : way ≡ First → Lands way 0
+    pub lands_first : way ≡ First → Lands way 0
     unfolding land_of
-    lands-first e = rw e (refl, omega arith)
+    lands_first e = rw e (refl, omega arith)
 
     pub lands_last : way ≡ Last → Lands way (get_or ws b 0 - 32 - 1)
     unfolding land_of

@@ -1,4 +1,6 @@
 // Paths from the root of a tree to a leaf, as the crate's path.rs has them: going down, and where a path branches. A cursor is taken by value and handed back.
+#![tactic(auto)]
+
 ghost use Rattle.std.specs.Prelude.{◌≡◌, ◌+◌, ◌-◌, ◌*◌, ◌≤◌, ◌<◌, [], length, take, get_or};
 ghost use Rattle.forest.specs.Sizes.{most_trees, most_levels};
 ghost use Rattle.forest.specs.Lists.{pad};
@@ -11,7 +13,7 @@ ghost use Rattle.path.specs.Cores.{Ready, Standing, Goes, Sees, LeafIn, look_in,
 use forest::{Cursor, Found};
 
 // Which way to go down: to the place of a key, to the first entry, or to the last.
-#[derive(Drop)]
+#[derive(Clone, Copy)]
 pub enum Way {
     Key(u32),
     First,
@@ -19,21 +21,21 @@ pub enum Way {
 }
 
 // What a look at a cursor sees.
-#[derive(Drop)]
+#[derive(Clone, Copy)]
 pub enum Look {
     Pair(u32, u32),
     Nothing,
 }
 
 // The level where a path can branch off.
-#[derive(Drop)]
+#[derive(Clone, Copy)]
 pub enum Branch {
     At(usize),
     Nothing,
 }
 
 // Where a path ends: the leaf, and the place in it.
-#[derive(Drop)]
+#[derive(Clone, Copy)]
 pub struct Foot {
     pub node: u32,
     pub place: usize,

@@ -82,8 +82,8 @@ module _ (roots : List ℕ) (N : ℕ) (st : Store) (free : List ℕ) (s : Sixtee
       (ap (length roots ∷◌) (set-append_left roots (N ∷ [] ++ (nodes_from st 1 N ++ rear)) i n h))
 
   module _ (n : ℕ) (lo : 1 ≤ n) (hi : n ≤ N) where
-    pub spell-placed : Placed (spell roots N st free) (length roots) n
-    spell-placed = record { some = lo; room = omega (arith, spell-length) }
+    pub spell_placed : Placed (spell roots N st free) (length roots) n
+    spell_placed = record { some = lo; room = omega (arith, spell-length) }
 
     -- the words before those of node n, and after them
     abbrev before : List ℕ

@@ -1,5 +1,5 @@
 -- PROOFS. The words of a pool over a store: one word of a node read and stored
-use mathlib.Core.Path.{◌≡◌, refl, ap, ◌∙◌}
+use mathlib.Core.Path.{◌≡◌, refl, ap, sym, subst, ◌∙◌}
 use mathlib.Core.List.{List, [], ◌∷◌, ◌++◌, append_assoc, map, reverse}
 use Prim.Native.Nat.{ℕ, zero, suc, ◌+◌, ◌-◌, ◌*◌, ◌≤◌, ◌<◌}
 use native.Mathlib.Omega.{arith}
@@ -56,13 +56,17 @@ nodes_write st post m zero k i v s h l = absurd (omega arith)
 nodes_write st post m (suc c) zero i v s h l =
     let z : 16 * 0 + i ≡ i = omega arith in
     let y : m + 0 ≡ m = omega arith in
-    rw (z, y, put_same st m (set (st m) i v), nodes_other st m (set (st m) i v) (suc m) c (omega arith), append_assoc, append_assoc)
-    (set-append_left (st m) (nodes_from st (suc m) c ++ post) i v (rw (s m) l))
+    rw z
+    (subst (λ x. set (nodes_from st m (suc c) ++ post) i v ≡ nodes_from (put st x (set (st x) i v)) m (suc c) ++ post) (sym y)
+    (rw (put_same st m (set (st m) i v), nodes_other st m (set (st m) i v) (suc m) c (omega arith), append_assoc, append_assoc)
+    (set-append_left (st m) (nodes_from st (suc m) c ++ post) i v (rw (s m) l))))
 nodes_write st post m (suc c) (suc k) i v s h l =
     let z : 16 * suc k + i ≡ length (st m) + (16 * k + i) = omega (arith, s m) in
     let y : m + suc k ≡ suc m + k = omega arith in
-    rw (z, y, put_other st (suc m + k) (set (st (suc m + k)) i v) m (λ q. omega arith), append_assoc, append_assoc)
-    (set_right (16 * k + i) v (st m) (nodes_from st (suc m) c ++ post) ∙ ap (st m ++◌) (nodes_write st post (suc m) c k i v s (omega arith) l))
+    rw z
+    (subst (λ x. set (nodes_from st m (suc c) ++ post) (length (st m) + (16 * k + i)) v ≡ nodes_from (put st x (set (st x) i v)) m (suc c) ++ post) (sym y)
+    (rw (put_other st (suc m + k) (set (st (suc m + k)) i v) m (λ q. omega arith), append_assoc, append_assoc)
+    (set_right (16 * k + i) v (st m) (nodes_from st (suc m) c ++ post) ∙ ap (st m ++◌) (nodes_write st post (suc m) c k i v s (omega arith) l))))
 
 module _ (roots : List ℕ) (N : ℕ) (st : Store) (free : List ℕ) (s : Sixteen st) (n : ℕ) (lo : 1 ≤ n) (hi : n ≤ N) where
   abbrev pre : List ℕ

@@ -11,7 +11,7 @@ use Rattle.forest.specs.Lists.{pad}
 use Rattle.forest.proofs.ListLaws.{set_right}
 use Rattle.forest.specs.Pools.{nodes_from}
 use Rattle.pool.specs.Stores.{Store, put, spell, Sixteen, no_words, top_node, taken_words, pushed_words, freed_words, Stocked, Freeable}
-use Rattle.pool.proofs.Bridges.{fore, spell-length, spell-stack_at, spell-frees, spell_rear, front_length, spell-placed, spell-with_block}
+use Rattle.pool.proofs.Bridges.{fore, spell-length, spell-stack_at, spell-frees, spell_rear, front_length, spell_placed, spell-with_block}
 
 -- a list that is padded with zeros
 pad-append : (n : ℕ) (xs ys : List ℕ) → length xs ≤ n → pad n (xs ++ ys) ≡ xs ++ pad (n - length xs) ys
@@ -56,15 +56,15 @@ module _ (roots : List ℕ) (N : ℕ) (st : Store) (free : List ℕ) (s : Sixtee
     topped-rear : topped ≡ (fore roots N st (x ∷ free) s ++ nodes_from st 1 N) ++ (suc (length free) ∷ (reverse free ++ (x ∷ gap)))
     topped-rear = spell_rear roots N st (x ∷ free) s ∙ rw (pad_top N x free room)
 
-    pub spell-stocked : Stocked topped (length roots)
-    spell-stocked = record {
+    pub spell_stocked : Stocked topped (length roots)
+    spell_stocked = record {
       some = rw (spell-frees roots N st (x ∷ free) s) (omega arith);
       room = rw (spell-frees roots N st (x ∷ free) s, spell-stack_at roots N st (x ∷ free) s) (omega (arith, spell-length roots N st (x ∷ free) s));
     }
 
     -- the top is x
-    pub spell-top : top_node topped (length roots) ≡ x
-    spell-top =
+    pub spell_top : top_node topped (length roots) ≡ x
+    spell_top =
         let f = fore roots N st (x ∷ free) s ++ nodes_from st 1 N in
         rw (spell-frees roots N st (x ∷ free) s, spell-stack_at roots N st (x ∷ free) s, topped-rear, ← (front_length roots N st (x ∷ free) s))
         (get_or-append-add f (suc (length free) ∷ (reverse free ++ (x ∷ gap))) (suc (length free)) 0 ∙ get_or_at (reverse free) x gap 0 (length free) (length-reverse free))
@@ -89,9 +89,9 @@ module _ (roots : List ℕ) (N : ℕ) (st : Store) (free : List ℕ) (s : Sixtee
       (two_sets f (reverse free) gap (length free) (suc (length free)) 0 n at (length free) (front_length roots N st free s) (length-reverse free) ∙ sym (topped-rear n))
 
   module _ (n : ℕ) (lo : 1 ≤ n) (hi : n ≤ N) where
-    pub spell-freeable : N ≤ most_nodes → Freeable (spell roots N st free) (length roots) n
-    spell-freeable few = record {
-      node = spell-placed roots N st free s n lo hi;
+    pub spell_freeable : N ≤ most_nodes → Freeable (spell roots N st free) (length roots) n
+    spell_freeable few = record {
+      node = spell_placed roots N st free s n lo hi;
       few = rw (spell-frees roots N st free s) (omega arith);
       room = rw (spell-frees roots N st free s, spell-stack_at roots N st free s) (omega (arith, spell-length roots N st free s));
     }

@@ -1,4 +1,6 @@
 // The pool of nodes: its layout in the words, reading and storing a node, taking and freeing one, formatting.
+#![tactic(auto)]
+
 ghost use Rattle.std.specs.Prelude.{◌≡◌, false, ◌+◌, ◌-◌, ◌*◌, ◌≤◌, ◌<◌, length, get_or, set, replicate};
 ghost use Rattle.forest.specs.Pools.{formatted, format_words, format_answer, encode, fresh};
 ghost use Rattle.pool.specs.Stores.{block, with_block, patched, stack_at, free_count, top_node, taken_words, freed_words, down};

@@ -1,4 +1,6 @@
 // The exports for programs in C and Rust: the public calls with numbered answers, and behind each the call for sound words.
+#![tactic(auto)]
+
 ghost use Rattle.std.specs.Prelude.{◌≡◌};
 ghost use Rattle.forest.specs.Sizes.{leaf_least};
 ghost use Rattle.forest.specs.Answers.{answer_of};
@@ -12,7 +14,7 @@ use forest::{Answer, Cursor};
 
 // What a cursor call hands back.
 #[repr(C)]
-#[derive(Drop)]
+#[derive(Clone, Copy)]
 pub struct Moved {
     pub answer: Answer,
     pub cursor: Cursor,

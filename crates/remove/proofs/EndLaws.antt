@@ -2,7 +2,7 @@
 use mathlib.Core.Path.{◌≡◌, refl, sym, ap, ◌∙◌, subst}
 use mathlib.Core.List.{List, [], ◌∷◌, ◌++◌}
 use mathlib.Core.Bool.{Bool, true, false, cond}
-use Prim.Native.Nat.{ℕ, ◌+◌, ◌-◌, ◌≤◌, ◌<◌}
+use Prim.Native.Nat.{ℕ, ◌+◌, ◌≤◌, ◌<◌}
 use native.Mathlib.Omega.{arith}
 use lib.ListN.{length, get_or}
 use lib.Dec.{eqb}
@@ -40,6 +40,7 @@ root-drop X Y S [] j rows sh sx sy = top rows sh sx
     top rows sh sx = at rows (subst (λ (Zs : List Row). HealStack.SameShape rows (drop_at j S ∷ Zs)) (two_nils (lost (drop_at j S) S)) sh) sx
       where
         at : (rows : List Row) → HealStack.SameShape rows (drop_at j S ∷ []) → Stacked X rows → root_above X (drop_up j (S ∷ [])) ≡ root_above Y (S ∷ [])
+        at [] sh sx = elim sh [ ]
         at (A ∷ []) (HealStack.also a b r) sx =
             let l : length (drop_at j S) ≡ 1 = sym (nums-length A (drop_at j S) a) ∙ sx.2 in
             let k : nums (drop_at j S) ≡ nums S = drop_row_kept 8 (parent (sizes S) j) (offset (sizes S) j) S (omega (arith, sy.2)) in
@@ -52,6 +53,7 @@ root-drop X Y S (S2 ∷ Ss) j rows sh sx sy = elim (test (lost (drop_at j S) S))
   where
     up : ((A : Row) (rest : List Row) → HealStack.SameShape rest (drop_up (parent (sizes S) j) (S2 ∷ Ss)) → Stacked A rest → root_above A (drop_up (parent (sizes S) j) (S2 ∷ Ss)) ≡ root_above S (S2 ∷ Ss)) →
         (rows : List Row) → HealStack.SameShape rows (drop_at j S ∷ drop_up (parent (sizes S) j) (S2 ∷ Ss)) → Stacked X rows → root_above (drop_at j S) (drop_up (parent (sizes S) j) (S2 ∷ Ss)) ≡ root_above S (S2 ∷ Ss)
+    up ih [] sh sx = elim sh [ ]
     up ih (A ∷ rest) (HealStack.also a b r) sx = ih A rest r sx.2
 
 -- the state after remove_pair

@@ -18,7 +18,7 @@ use Rattle.node.proofs.Words.{leaf_is}
 use Rattle.pool.specs.Stores.{num_at, base, block}
 use Rattle.path.specs.Cores.{Ready, Goes}
 use Rattle.path.proofs.Roots.{the_pool}
-use Rattle.path.proofs.Foots.{ends-in}
+use Rattle.path.proofs.Foots.{ends_in}
 use Rattle.remove.specs.Ends.{AskRemove, Removes}
 use Rattle.remove.specs.Keys.{LeafPair, less_words, only_leaf, AskKey, RemovesKey}
 use Rattle.remove.proofs.StartLaws.{Begun, begun, size_is, place0}
@@ -99,7 +99,7 @@ module _ {ws : List ℕ} {t tree k n e : ℕ} (a : AskKey ws t tree k n e) where
 
     pair : LeafPair ws t n e
     pair = record {
-      within = ends-in ws t tree a.ready k n e a.ends;
+      within = ends_in ws t tree a.ready k n e a.ends;
       leaf = subst Leaf (sym block-is) (leaf_is (items_at b.L b.j) (omega (arith, e_less)) (OnlyLaws.few p c f b));
       pair = omega (arith, e_less, word-is);
     }
@@ -107,14 +107,14 @@ module _ {ws : List ℕ} {t tree k n e : ℕ} (a : AskKey ws t tree k n e) where
     only-words : only_leaf ws t tree n e ≡ true → encode (move to_remove c p).pool ≡ less_words ws t n e
     only-words u = elim (test (eqb (get_or ws (tree + 1) 0) n)) [
       | is q ↦
-          let top = sym (OnlyLaws.top-word p c f b s tr) ∙ eqb-true _ _ q ∙ node-is in
+          let top = sym (OnlyLaws.top_word p c f b s tr) ∙ eqb-true _ _ q ∙ node-is in
           let more : 2 ≤ length (items_at b.L b.j) = omega (arith, if_root ws t tree n e u q, word-is) in
-          OnlyLaws.less p c f b (OnlyLaws.root-stays p c f b top more) (OnlyLaws.root-tower p c f b top more) s tr n node-is ∙ ap (less_words ws t n) (sym place_is)
+          OnlyLaws.less p c f b (OnlyLaws.root_stays p c f b top more) (OnlyLaws.root_tower p c f b top more) s tr n node-is ∙ ap (less_words ws t n) (sym place_is)
       | isnt q ↦
           let z = if_other ws t tree n e u q in
           let more : 5 ≤ length (items_at b.L b.j) = omega (arith, z.1, word-is) in
           let later : 1 ≤ b.e = omega (arith, z.0, place_is) in
-          OnlyLaws.less p c f b (OnlyLaws.healthy-stays p c f b more later) (OnlyLaws.healthy-tower p c f b more later) s tr n node-is ∙ ap (less_words ws t n) (sym place_is)
+          OnlyLaws.less p c f b (OnlyLaws.healthy_stays p c f b more later) (OnlyLaws.healthy_tower p c f b more later) s tr n node-is ∙ ap (less_words ws t n) (sym place_is)
     ]
 
   abbrev p0 : Pool

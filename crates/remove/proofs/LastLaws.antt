@@ -2,7 +2,7 @@
 use mathlib.Core.Path.{◌≡◌, refl, sym, ap, ◌∙◌, subst}
 use mathlib.Core.List.{List, [], ◌∷◌, ◌++◌}
 use mathlib.Core.Bool.{false}
-use Prim.Native.Nat.{ℕ, ◌+◌, ◌-◌, ◌≤◌, ◌<◌}
+use Prim.Native.Nat.{ℕ, ◌+◌, ◌≤◌, ◌<◌}
 use native.Mathlib.Omega.{arith}
 use lib.ListN.{length, get_or, set}
 use lib.Dec.{eqb}
@@ -22,12 +22,12 @@ use Rattle.remove.specs.Ends.{AskRemove, AskLast, Lone, Removes}
 use Rattle.crit.proofs.HealStack
 use Rattle.crit.proofs.HealMem
 use Rattle.crit.proofs.HealPath
-use Rattle.crit.proofs.SpeltLaws.{spelt-block, spelt-placed}
+use Rattle.crit.proofs.SpeltLaws.{spelt_block, spelt_placed}
 use Rattle.heal.proofs.FreeLaws.{spelt_freeable, spelt_freed, room, within_named}
 use Rattle.remove.proofs.HealTrim.{one_size}
 use Rattle.remove.proofs.HealPool.{pool_words}
 use Rattle.remove.proofs.StartLaws.{Begun, begun, good, e_in, i, size_is, s0, m0, spelt0, path0, holds0, within0, before0, each0, pairs_are}
-use Rattle.remove.proofs.RemoveLaws.{there_it_is, sought, encoded, cursor-is, root_in, root-set}
+use Rattle.remove.proofs.RemoveLaws.{there_it_is, sought, encoded, cursor_is, root_in, root-set}
 use Rattle.forest.proofs.WordLaws.{count-append}
 
 -- two leaves have two pairs
@@ -71,7 +71,7 @@ module _ (p : Pool) (c : Cursor) (formed : WellFormed 3 p) (b : Begun p c) where
     top_placed : c.size ≡ 1 → Placed ws t (get_or c.nodes 0 0)
     top_placed h =
         let z : length b.Rs ≡ 0 = omega (arith, size_is p c formed b) in
-        subst (λ (l : ℕ). Placed ws t (get_or c.nodes l 0)) z (spelt-placed sp (get_or c.nodes (length b.Rs) 0) n_in.0 n_in.1)
+        subst (λ (l : ℕ). Placed ws t (get_or c.nodes l 0)) z (spelt_placed sp (get_or c.nodes (length b.Rs) 0) n_in.0 n_in.1)
 
     lone_is : (w : List ℕ) → c.size ≡ 1 → w ≡ block ws t (get_or c.nodes 0 0) → eqb (get_or w 0 0) 33 ≡ eqb (length (pairs (tree_of p c.tree))) 1
     lone_is w h e =
@@ -79,7 +79,7 @@ module _ (p : Pool) (c : Cursor) (formed : WellFormed 3 p) (b : Begun p c) where
         let one = single z in
         let j0 : b.j ≡ 0 = omega (arith, b.jl) in
         let q : w ≡ leaf_words (items_at b.L 0) =
-        e ∙ ap (λ (l : ℕ). block ws t (get_or c.nodes l 0)) (sym z) ∙ spelt-block sp (get_or c.nodes (length b.Rs) 0) n_in.0 n_in.1 ∙ n_words ∙ ap (λ (k : ℕ). leaf_words (items_at b.L k)) j0 in
+        e ∙ ap (λ (l : ℕ). block ws t (get_or c.nodes l 0)) (sym z) ∙ spelt_block sp (get_or c.nodes (length b.Rs) 0) n_in.0 n_in.1 ∙ n_words ∙ ap (λ (k : ℕ). leaf_words (items_at b.L k)) j0 in
         let g : get_or w 0 0 ≡ 32 + length (items_at b.L 0) = ap (λ (v : List ℕ). get_or v 0 0) q in
         let l : length (pairs (tree_of p c.tree)) ≡ length (items_at b.L 0) = pairs_are p c formed b ∙ one_size b.L one in
         elim (test (eqb (length (items_at b.L 0)) 1)) [
@@ -108,11 +108,11 @@ module _ (p : Pool) (c : Cursor) (formed : WellFormed 3 p) (b : Begun p c) where
           room p.count (num_at b.L b.j) [] p.free
           (λ x. omega (arith, within0 p c formed b x, HealMem.gone_count b.L b.j x b.jl, count-append x (nums b.L) (numbers b.Rs)))
 
-      pub last-freeable : Freeable ws t (get_or c.nodes 0 0)
-      last-freeable = spelt_freeable sp (get_or c.nodes 0 0) last-in.0 last-in.1 last-room
+      pub last_freeable : Freeable ws t (get_or c.nodes 0 0)
+      last_freeable = spelt_freeable sp (get_or c.nodes 0 0) last-in.0 last-in.1 last-room
 
-      pub last-freed : (vs : List ℕ) → vs ≡ freed_words ws t (get_or c.nodes 0 0) → Spelt vs t c (moved (m0 p c formed b) (free_node (s0 p c formed b) (get_or c.nodes 0 0)))
-      last-freed vs e = rw e (spelt_freed sp (get_or c.nodes 0 0) last-in.0 last-in.1 last-room)
+      pub last_freed : (vs : List ℕ) → vs ≡ freed_words ws t (get_or c.nodes 0 0) → Spelt vs t c (moved (m0 p c formed b) (free_node (s0 p c formed b) (get_or c.nodes 0 0)))
+      last_freed vs e = rw e (spelt_freed sp (get_or c.nodes 0 0) last-in.0 last-in.1 last-room)
 
       one-leaf : length b.L ≡ 1
       one-leaf = single none_above
@@ -138,9 +138,9 @@ module _ (p : Pool) (c : Cursor) (formed : WellFormed 3 p) (b : Begun p c) where
       unfolding drop_leaf
       gone-leaf = rw ((sought p c formed b).1 ∙ e-zero, (sought p c formed b).0 ∙ j-zero) (dropped b.L one-leaf one-item)
 
-      tree-none : remove_tree 7 b.x.0 (b.L ∷ b.Rs) ≡ []
+      tree_none : remove_tree 7 b.x.0 (b.L ∷ b.Rs) ≡ []
       unfolding remove_tree
-      tree-none = simp (there_it_is p c formed b, gone-leaf)
+      tree_none = simp (there_it_is p c formed b, gone-leaf)
 
       name : get_or (nums b.L) (leaf_of b.x.0 b.L) 0 ≡ get_or c.nodes 0 0
       name =
@@ -173,13 +173,13 @@ module _ (p : Pool) (c : Cursor) (formed : WellFormed 3 p) (b : Begun p c) where
           ])
           (λ x. omega arith)
 
-      pub last-words : (vs us : List ℕ) → vs ≡ freed_words ws t (get_or c.nodes 0 0) → us ≡ set vs (c.tree + 1) 0 → encode (move to_remove c p).pool ≡ us
-      last-words vs us e f =
-          encoded p c formed b [] (get_or c.nodes 0 0 ∷ []) tree-none freed-one (put (node_words p.trees) (get_or c.nodes 0 0) no_words) (get_or c.nodes 0 0 ∷ p.free) 0 words-none refl refl ∙
-          sym (root-set p c formed b 0 (last-freed vs e) f)
+      pub last_words : (vs us : List ℕ) → vs ≡ freed_words ws t (get_or c.nodes 0 0) → us ≡ set vs (c.tree + 1) 0 → encode (move to_remove c p).pool ≡ us
+      last_words vs us e f =
+          encoded p c formed b [] (get_or c.nodes 0 0 ∷ []) tree_none freed-one (put (node_words p.trees) (get_or c.nodes 0 0) no_words) (get_or c.nodes 0 0 ∷ p.free) 0 words-none refl refl ∙
+          sym (root-set p c formed b 0 (last_freed vs e) f)
 
-      pub last-cursor : (r : Cursor) → r ≡ cursor_at c.tree [] → (move to_remove c p).cursor ≡ r
-      last-cursor r e = cursor-is p c formed b [] (get_or c.nodes 0 0 ∷ []) tree-none freed-one ∙ simp (le-ltb (i p c formed b) 0 (omega arith)) (sym e)
+      pub last_cursor : (r : Cursor) → r ≡ cursor_at c.tree [] → (move to_remove c p).cursor ≡ r
+      last_cursor r e = cursor_is p c formed b [] (get_or c.nodes 0 0 ∷ []) tree_none freed-one ∙ simp (le-ltb (i p c formed b) 0 (omega arith)) (sym e)
 
 -- is_last
 module _ {ws : List ℕ} {t : ℕ} {c : Cursor} (a : AskRemove ws t c) where
@@ -202,15 +202,15 @@ module _ {ws : List ℕ} {t : ℕ} {c : Cursor} (a : AskLast ws t c) where
   b0 = begun p0 c (a.asks.stands p0 a.asks.sound.formed a.asks.sound.same)
 
   pub last_asks : Freeable ws t (get_or c.nodes 0 0)
-  last_asks = last-freeable p0 c a.asks.sound.formed b0 a.asks.sound.same (a.asks.trees p0 a.asks.sound.formed a.asks.sound.same) (a.one p0 a.asks.sound.formed a.asks.sound.same)
+  last_asks = last_freeable p0 c a.asks.sound.formed b0 a.asks.sound.same (a.asks.trees p0 a.asks.sound.formed a.asks.sound.same) (a.one p0 a.asks.sound.formed a.asks.sound.same)
 
   pub last_root : (vs : List ℕ) → vs ≡ freed_words ws t (get_or c.nodes 0 0) → c.tree + 1 < length vs
   last_root vs e =
       root_in p0 c a.asks.sound.formed b0
-      (last-freed p0 c a.asks.sound.formed b0 a.asks.sound.same (a.asks.trees p0 a.asks.sound.formed a.asks.sound.same) (a.one p0 a.asks.sound.formed a.asks.sound.same) vs e)
+      (last_freed p0 c a.asks.sound.formed b0 a.asks.sound.same (a.asks.trees p0 a.asks.sound.formed a.asks.sound.same) (a.one p0 a.asks.sound.formed a.asks.sound.same) vs e)
 
   pub last_removes : (vs us : List ℕ) (r : Cursor) → vs ≡ freed_words ws t (get_or c.nodes 0 0) → us ≡ set vs (c.tree + 1) 0 → r ≡ cursor_at c.tree [] → Removes ws us c r
   last_removes vs us r e f g = record {
-    words = λ p fo sa. last-words p c fo (begun p c (a.asks.stands p fo sa)) sa (a.asks.trees p fo sa) (a.one p fo sa) vs us e f;
-    cursor = λ p fo sa. last-cursor p c fo (begun p c (a.asks.stands p fo sa)) sa (a.asks.trees p fo sa) (a.one p fo sa) r g;
+    words = λ p fo sa. last_words p c fo (begun p c (a.asks.stands p fo sa)) sa (a.asks.trees p fo sa) (a.one p fo sa) vs us e f;
+    cursor = λ p fo sa. last_cursor p c fo (begun p c (a.asks.stands p fo sa)) sa (a.asks.trees p fo sa) (a.one p fo sa) r g;
   }

@@ -2,7 +2,7 @@
 use mathlib.Core.Path.{◌≡◌, refl, sym, ap, ◌∙◌, subst}
 use mathlib.Core.List.{List, [], ◌∷◌, ◌++◌, map}
 use mathlib.Core.Bool.{Bool, false, cond}
-use Prim.Native.Nat.{ℕ, suc, ◌+◌, ◌-◌, ◌≤◌, ◌<◌}
+use Prim.Native.Nat.{ℕ, suc, ◌+◌, ◌≤◌, ◌<◌}
 use native.Mathlib.Omega.{arith}
 use lib.ListN.{length, get_or, set, get_or-map}
 use lib.Seq.{set-get_or}
@@ -26,7 +26,7 @@ use Rattle.crit.specs.Paths.{num_at, upd, Stacked, HoldsUp}
 use Rattle.crit.specs.Asks.{Spelt}
 use Rattle.crit.proofs.HealRows.{upd-length, upd-nums, upd_same}
 use Rattle.crit.proofs.HealMem
-use Rattle.crit.proofs.SpeltLaws.{spelt-block, spelt-store}
+use Rattle.crit.proofs.SpeltLaws.{spelt_block, spelt_store}
 use Rattle.heal.proofs.HealMend.{drop_mend, mend_stays, mend_last}
 use Rattle.heal.proofs.HealStep.{front_cut}
 use Rattle.node.proofs.Words.{leaf_pairs_lem}
@@ -73,21 +73,21 @@ module _ (p : Pool) (c : Cursor) (formed : WellFormed 3 p) (b : Begun p c) where
     lo-hi = rw (n_is p c formed b) at (n_in p c formed b)
 
     pub leaf_block : block ws t n ≡ leaf_words (items_at b.L b.j)
-    leaf_block = spelt-block sp n lo-hi.0 lo-hi.1 ∙ rw (n_is p c formed b) at (n_words p c formed b)
+    leaf_block = spelt_block sp n lo-hi.0 lo-hi.1 ∙ rw (n_is p c formed b) at (n_words p c formed b)
 
-    pub top-word : get_or ws (c.tree + 1) 0 ≡ root_above b.L b.Rs
-    top-word = root_word p c formed b {s = s0 p c formed b} sp
+    pub top_word : get_or ws (c.tree + 1) 0 ≡ root_above b.L b.Rs
+    top_word = root_word p c formed b {s = s0 p c formed b} sp
 
     pub top_in : c.tree + 1 < length ws
     top_in = root_in p c formed b {s = s0 p c formed b} sp
 
   -- four are left, and the pair was not the first
   module _ (more : 5 ≤ length (items_at b.L b.j)) (later : 1 ≤ b.e) where
-    pub healthy-stays : drop_row 7 b.j b.e b.L ≡ M
-    healthy-stays = drop_mend 7 b.j b.e b.L ∙ mend_stays 7 b.j M (omega (arith, left)) (omega (arith, b.jl, upd-length b.j (remove_at b.e) b.L)) (omega arith)
+    pub healthy_stays : drop_row 7 b.j b.e b.L ≡ M
+    healthy_stays = drop_mend 7 b.j b.e b.L ∙ mend_stays 7 b.j M (omega (arith, left)) (omega (arith, b.jl, upd-length b.j (remove_at b.e) b.L)) (omega arith)
 
-    pub healthy-tower : Tower M b.Rs
-    healthy-tower =
+    pub healthy_tower : Tower M b.Rs
+    healthy_tower =
         tower_line b.L M b.Rs
         (line_same b.j (remove_at b.e) b.L (front_cut b.e (items_at b.L b.j) (λ z. omega arith))) (good p c formed b).2
 
@@ -110,11 +110,11 @@ module _ (p : Pool) (c : Cursor) (formed : WellFormed 3 p) (b : Begun p c) where
     alone : length M ≡ 1
     alone = upd-length b.j (remove_at b.e) b.L ∙ single p c formed b no_rows
 
-    pub root-stays : drop_row 7 b.j b.e b.L ≡ M
-    root-stays = drop_mend 7 b.j b.e b.L ∙ mend_last 7 b.j M (omega (arith, left)) (omega (arith, b.jl, alone, upd-length b.j (remove_at b.e) b.L))
+    pub root_stays : drop_row 7 b.j b.e b.L ≡ M
+    root_stays = drop_mend 7 b.j b.e b.L ∙ mend_last 7 b.j M (omega (arith, left)) (omega (arith, b.jl, alone, upd-length b.j (remove_at b.e) b.L))
 
-    pub root-tower : Tower M b.Rs
-    root-tower = from b.Rs no_rows
+    pub root_tower : Tower M b.Rs
+    root_tower = from b.Rs no_rows
       where
         from : (Rs : List Row) → length Rs ≡ 0 → Tower M Rs
         from [] h = alone
@@ -179,5 +179,5 @@ module _ (p : Pool) (c : Cursor) (formed : WellFormed 3 p) (b : Begun p c) where
     less {ws} {t} same tr m q =
         encoded p c formed b (M ∷ b.Rs) [] tree-less freed-none st' p.free (root_above b.L b.Rs) words-less refl (sym (ap (root_above M) (sym (refresh_same M b.Rs tower)) ∙ root-refresh b.L M b.Rs (upd-nums b.j (remove_at b.e) b.L))) ∙
         ap (λ (rs : List ℕ). spell rs p.count st' p.free) same-root ∙
-        sym (spelt-store (sp same tr) n (lo-hi same tr).0 (lo-hi same tr).1 w (leaf_length (remove_at b.e (items_at b.L b.j)))).words ∙
+        sym (spelt_store (sp same tr) n (lo-hi same tr).0 (lo-hi same tr).1 w (leaf_length (remove_at b.e (items_at b.L b.j)))).words ∙
         rw (q, leaf_block same tr, leaf_pairs_lem (items_at b.L b.j) few)

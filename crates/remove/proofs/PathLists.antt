@@ -1,7 +1,7 @@
 -- PROOFS. A cursor's levels as a path through rows, and back
 use mathlib.Core.Path.{◌≡◌, refl, sym, ap, ◌∙◌}
 use mathlib.Core.List.{List, [], ◌∷◌, map}
-use Prim.Native.Nat.{ℕ, suc, ◌+◌, ◌-◌, ◌≤◌, ◌<◌}
+use Prim.Native.Nat.{ℕ, suc, ◌+◌, ◌≤◌, ◌<◌}
 use native.Mathlib.Omega.{arith}
 use lib.ListN.{length, get_or, length-map, take, drop, length-take, length-drop, get_or-map}
 use lib.Seq.{ext_get_or, get_or-drop, get_or-take}

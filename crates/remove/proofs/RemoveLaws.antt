@@ -110,16 +110,16 @@ module _ (p : Pool) (c : Cursor) (formed : WellFormed 3 p) (b : Begun p c) where
     left_is : left_pool to_remove c.tree (on b.j b.e) p ≡ p'
     left_is = ap (λ (o : Option Item). removed c.tree o p) pair_is ∙ called ∙ rw (e_t, ef)
 
-    pub pool-is : (move to_remove c p).pool ≡ p'
+    pub pool_is : (move to_remove c p).pool ≡ p'
     unfolding move_from
-    pool-is = ap (λ (m : Rattle.forest.specs.Cursors.Moved). m.pool) move_is ∙ left_is
+    pool_is = ap (λ (m : Rattle.forest.specs.Cursors.Moved). m.pool) move_is ∙ left_is
 
     own : tree_of p' c.tree ≡ T'
     own = get_or-set_same p.trees c.tree T' [] b.there
 
-    pub cursor-is : (move to_remove c p).cursor ≡ cursor_at c.tree (path_of T' (spot_at (leaves T') (i p c formed b)))
+    pub cursor_is : (move to_remove c p).cursor ≡ cursor_at c.tree (path_of T' (spot_at (leaves T') (i p c formed b)))
     unfolding move_from
-    cursor-is =
+    cursor_is =
         ap (λ (m : Rattle.forest.specs.Cursors.Moved). m.cursor) move_is ∙
         ap (λ (q : Pool). cursor_at c.tree (path_of (tree_of q c.tree) (left_spot to_remove (leaves (tree_of p c.tree)) (leaves (tree_of q c.tree)) (on b.j b.e)))) left_is ∙
         ap (λ (T : Tree). cursor_at c.tree (path_of T (left_spot to_remove (leaves (tree_of p c.tree)) (leaves T) (on b.j b.e)))) own ∙
@@ -130,7 +130,7 @@ module _ (p : Pool) (c : Cursor) (formed : WellFormed 3 p) (b : Begun p c) where
     pub encoded : (st : Rattle.pool.specs.Stores.Store) (free : List ℕ) (n : ℕ) → ((x : ℕ) → st x ≡ node_words (set p.trees c.tree T') x) → free ≡ push_all fs p.free → n ≡ root T' →
         encode (move to_remove c p).pool ≡ spell (set (map root p.trees) c.tree n) p.count st free
     encoded st free n w f r =
-        ap encode pool-is ∙ encode-spell p' ∙ rw (map-set root c.tree T' p.trees, f, r) (spell_ext (set (map root p.trees) c.tree (root T')) p.count (node_words (set p.trees c.tree T')) st (push_all fs p.free) (λ x lo hi. sym (w x)))
+        ap encode pool_is ∙ encode-spell p' ∙ rw (map-set root c.tree T' p.trees, f, r) (spell_ext (set (map root p.trees) c.tree (root T')) p.count (node_words (set p.trees c.tree T')) st (push_all fs p.free) (λ x lo hi. sym (w x)))
 
   -- the root word of a state that keeps the roots
   pub root_word : {vs : List ℕ} {t : ℕ} {d : Cursor} {s : State} → Spelt vs t d (moved (m0 p c formed b) s) → get_or vs (c.tree + 1) 0 ≡ root_above b.L b.Rs
@@ -189,8 +189,8 @@ module _ (p : Pool) (c : Cursor) (formed : WellFormed 3 p) (b : Begun p c) where
     long = rows_length mend refl some-M stacked par_in
 
     -- what shrink_root asks
-    pub shrink-asks : {vs : List ℕ} {t root : ℕ} {d : Cursor} → Spelt vs t d (moved (m0 p c formed b) s') → root ≡ get_or vs (c.tree + 1) 0 → AskShrink vs t root (length b.Rs)
-    shrink-asks {d = d} sp e = record {
+    pub shrink_asks : {vs : List ℕ} {t root : ℕ} {d : Cursor} → Spelt vs t d (moved (m0 p c formed b) s') → root ≡ get_or vs (c.tree + 1) 0 → AskShrink vs t root (length b.Rs)
+    shrink_asks {d = d} sp e = record {
       cursor = d;
       mem = moved (m0 p c formed b) s';
       spelt = sp;
@@ -214,10 +214,10 @@ module _ (p : Pool) (c : Cursor) (formed : WellFormed 3 p) (b : Begun p c) where
     tree-new : remove_tree 7 b.x.0 (b.L ∷ b.Rs) ≡ M ∷ new
     tree-new = tree_is 7 b.x.0 b.L b.Rs (i p c formed b) there_it_is ((spot p c formed b).0 ∙ sym sought.0) ((spot p c formed b).1 ∙ sym sought.1) some-M
 
-    abbrev gone-list : List ℕ
-    gone-list = cond (lost M b.L) (num_at b.L (parent (sizes b.L) (i p c formed b)) ∷ freed_up (parent (sizes b.L) (i p c formed b)) b.Rs) [] ++ trimmed M above
+    abbrev gone_list : List ℕ
+    gone_list = cond (lost M b.L) (num_at b.L (parent (sizes b.L) (i p c formed b)) ∷ freed_up (parent (sizes b.L) (i p c formed b)) b.Rs) [] ++ trimmed M above
 
-    freed-new : freed 7 b.x.0 (b.L ∷ b.Rs) ≡ gone-list
+    freed-new : freed 7 b.x.0 (b.L ∷ b.Rs) ≡ gone_list
     freed-new = freed_is 7 b.x.0 b.L b.Rs (i p c formed b) there_it_is ((spot p c formed b).0 ∙ sym sought.0) ((spot p c formed b).1 ∙ sym sought.1)
 
     new-length : length new ≡ length (trim M mend.rows)
@@ -234,14 +234,14 @@ module _ (p : Pool) (c : Cursor) (formed : WellFormed 3 p) (b : Begun p c) where
       pub sp2 : Spelt xs t d (moved (m0 p c formed b) s_f)
       sp2 = subst (λ (q : Shrunk). Spelt xs t d (moved (m0 p c formed b) q.state)) (shrunk-to n n_is) (sh.run d (moved (m0 p c formed b) s') sp)
 
-      pub end-words : encode (move to_remove c p).pool ≡ ys
-      end-words =
-          encoded (M ∷ new) gone-list tree-new freed-new s_f.st s_f.free top.root (HealDone.words 3 least_two least_half b.L b.Rs (good p c formed b).1 (good p c formed b).2 p.trees c.tree b.there (s0 p c formed b) (before0 p c formed b) (each0 p c formed b) (holds0 p c formed b) (i p c formed b) (spot p c formed b).2 more place1 path1) (HealDone.frees 3 least_two least_half b.L b.Rs (good p c formed b).1 (good p c formed b).2 p.trees c.tree b.there (s0 p c formed b) (before0 p c formed b) (each0 p c formed b) (holds0 p c formed b) (i p c formed b) (spot p c formed b).2 more place1 path1)
+      pub end_words : encode (move to_remove c p).pool ≡ ys
+      end_words =
+          encoded (M ∷ new) gone_list tree-new freed-new s_f.st s_f.free top.root (HealDone.words 3 least_two least_half b.L b.Rs (good p c formed b).1 (good p c formed b).2 p.trees c.tree b.there (s0 p c formed b) (before0 p c formed b) (each0 p c formed b) (holds0 p c formed b) (i p c formed b) (spot p c formed b).2 more place1 path1) (HealDone.frees 3 least_two least_half b.L b.Rs (good p c formed b).1 (good p c formed b).2 p.trees c.tree b.there (s0 p c formed b) (before0 p c formed b) (each0 p c formed b) (holds0 p c formed b) (i p c formed b) (spot p c formed b).2 more place1 path1)
           (sh.root_is d (moved (m0 p c formed b) s') sp ∙ ap (λ (q : Shrunk). q.root) (shrunk-to n n_is)) ∙
           sym (root-set top.root sp2 ey)
 
-      pub gone-length : top.gone + length new ≡ length b.Rs
-      gone-length =
+      pub gone_length : top.gone + length new ≡ length b.Rs
+      gone_length =
           let a : top.gone ≡ shrinks (length b.Rs) s' n = sh.gone_is d (moved (m0 p c formed b) s') sp in
           let q : shrinks (length b.Rs) s' n ≡ shrinks (length mend.rows) s' (root_above M mend.rows) = ap (λ (q : ℕ). shrinks q s' n) (sym long) ∙ ap (shrinks (length mend.rows) s') (n_is ∙ sym same-root) in
           omega (arith, shrinks-length M mend.rows s' some-M mend.stacked once_rows mend.up, new-length, long)
@@ -252,8 +252,8 @@ module _ (p : Pool) (c : Cursor) (formed : WellFormed 3 p) (b : Begun p c) where
       place_at : (l : ℕ) → l < 16 → get_or d.places l 0 ≡ s'.ps l
       place_at l h = sp2.places l h ∙ ap (λ (f : ℕ → ℕ). f l) (free_all_path (trimmed M above) s').1
 
-      pub end-cursor : (move to_remove c p).cursor ≡ r
-      end-cursor = cursor-is (M ∷ new) gone-list tree-new freed-new ∙ by mend.stands ∙ sym er
+      pub end_cursor : (move to_remove c p).cursor ≡ r
+      end_cursor = cursor_is (M ∷ new) gone_list tree-new freed-new ∙ by mend.stands ∙ sym er
         where
           by : Where (sum (sizes M)) (i p c formed b) ((s'.ps (length b.Rs) ≡ offset (sizes M) (i p c formed b)) × Leads M (parent (sizes M) (i p c formed b)) mend.rows s'.ns s'.ps) true s'.live →
               cursor_at c.tree (path_of (M ∷ new) (spot_at M (i p c formed b))) ≡ shifted d top.gone
@@ -268,7 +268,7 @@ module _ (p : Pool) (c : Cursor) (formed : WellFormed 3 p) (b : Begun p c) where
               let z : d.size ≡ c.size = sp2.size ∙ rw ((free_all_path (trimmed M above) s').2 ∙ lv) refl in
               let PP = path_up (parent (sizes M) (i p c formed b)) new ((get_or (nums M) (parent (sizes M) (i p c formed b)) 0, offset (sizes M) (i p c formed b)) ∷ []) in
               let lp : length PP ≡ suc (length new) = length-path_up (parent (sizes M) (i p c formed b)) new ((get_or (nums M) (parent (sizes M) (i p c formed b)) 0, offset (sizes M) (i p c formed b)) ∷ []) ∙ omega arith in
-              let g = gone-length in
+              let g = gone_length in
               let lv6 = levels p c formed b in
               let y : d.size - top.gone ≡ length PP = omega (arith, size_is p c formed b) in
               let ep = HealEnd.end_path mend some-M (HealDone.once_above 3 least_two least_half b.L b.Rs (good p c formed b).1 (good p c formed b).2 p.trees c.tree b.there (s0 p c formed b) (before0 p c formed b) (each0 p c formed b) (holds0 p c formed b) (i p c formed b) (spot p c formed b).2 more place1 path1) (parent (sizes M) (i p c formed b)) top.gone (omega (arith, long)) w.1 in

@@ -17,7 +17,7 @@ use Rattle.heal.specs.Cycle.{AskPair}
 use Rattle.remove.specs.Ends.{AskShrink, Shrinks, shifted, AskRemove, AskLast, Lone, Removes}
 use Rattle.remove.specs.declared.Top.{Top}
 use Rattle.remove.proofs.StartLaws.{Begun, begun, levels, size_is, m0, s0, spelt0, stood, pairs_are, spot}
-use Rattle.remove.proofs.RemoveLaws.{root_in, shrink-asks, gone-length, sp2, end-words, end-cursor}
+use Rattle.remove.proofs.RemoveLaws.{root_in, shrink_asks, gone_length, sp2, end_words, end_cursor}
 
 pub lone_as : {ws : List ℕ} {c : Cursor} {r : Bool} (q : Bool) → Lone ws c r → r ≡ q → Lone ws c q
 lone_as q l e = record { run = λ p f s. sym e ∙ l.run p f s }
@@ -64,8 +64,8 @@ module _ {ws : List ℕ} {t : ℕ} {c : Cursor} (a : AskRemove ws t c) where
       root_there = root_in p0 c f0 b0 (after p0 f0 a.sound.same)
 
       module _ {n : ℕ} (en : n ≡ get_or vs (c.tree + 1) 0) where
-        pub asks-shrink : AskShrink vs t n (c.size - 1)
-        asks-shrink = subst (AskShrink vs t n) (level-is p0 f0 a.sound.same) (shrink-asks p0 c f0 b0 (many p0 f0 a.sound.same) (after p0 f0 a.sound.same) en)
+        pub asks_shrink : AskShrink vs t n (c.size - 1)
+        asks_shrink = subst (AskShrink vs t n) (level-is p0 f0 a.sound.same) (shrink_asks p0 c f0 b0 (many p0 f0 a.sound.same) (after p0 f0 a.sound.same) en)
 
         module _ {xs : List ℕ} {top : Top} (sh : Shrinks vs xs t n (c.size - 1) top) where
           shrinks-at : (p : Pool) (f : WellFormed 3 p) (e : encode p ≡ ws) → Shrinks vs xs t n (length (at p f e).Rs) top
@@ -74,12 +74,12 @@ module _ {ws : List ℕ} {t : ℕ} {c : Cursor} (a : AskRemove ws t c) where
           ys : List ℕ
           ys = set xs (c.tree + 1) top.root
 
-          pub root-still : c.tree + 1 < length xs
-          root-still = root_in p0 c f0 b0 (sp2 p0 c f0 b0 (many p0 f0 a.sound.same) (after p0 f0 a.sound.same) en (shrinks-at p0 f0 a.sound.same) refl refl)
+          pub root_still : c.tree + 1 < length xs
+          root_still = root_in p0 c f0 b0 (sp2 p0 c f0 b0 (many p0 f0 a.sound.same) (after p0 f0 a.sound.same) en (shrinks-at p0 f0 a.sound.same) refl refl)
 
-          pub shift-asks : (d.size ≤ 16) × (top.gone ≤ 16)
-          shift-asks =
-              let g = gone-length p0 c f0 b0 (many p0 f0 a.sound.same) (after p0 f0 a.sound.same) en (shrinks-at p0 f0 a.sound.same) refl refl in
+          pub shift_asks : (d.size ≤ 16) × (top.gone ≤ 16)
+          shift_asks =
+              let g = gone_length p0 c f0 b0 (many p0 f0 a.sound.same) (after p0 f0 a.sound.same) en (shrinks-at p0 f0 a.sound.same) refl refl in
               let l6 = levels p0 c f0 b0 in
               let z = (after p0 f0 a.sound.same).size in
               (either (taken (length b0.Rs) (s0 p0 c f0 b0)).live z, omega arith)
@@ -90,6 +90,6 @@ module _ {ws : List ℕ} {t : ℕ} {c : Cursor} (a : AskRemove ws t c) where
 
           pub removes : {us : List ℕ} {r : Cursor} → us ≡ set xs (c.tree + 1) top.root → r ≡ shifted d top.gone → Removes ws us c r
           removes eu er = record {
-            words = λ p f e. end-words p c f (at p f e) (many p f e) (after p f e) en (shrinks-at p f e) eu er;
-            cursor = λ p f e. end-cursor p c f (at p f e) (many p f e) (after p f e) en (shrinks-at p f e) eu er;
+            words = λ p f e. end_words p c f (at p f e) (many p f e) (after p f e) en (shrinks-at p f e) eu er;
+            cursor = λ p f e. end_cursor p c f (at p f e) (many p f e) (after p f e) en (shrinks-at p f e) eu er;
           }

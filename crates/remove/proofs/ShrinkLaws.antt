@@ -25,7 +25,7 @@ use Rattle.crit.proofs.HealRows
 use Rattle.crit.proofs.HealStack
 use Rattle.crit.proofs.HealMem
 use Rattle.crit.proofs.HealPath
-use Rattle.crit.proofs.SpeltLaws.{spelt-block, spelt-placed, same_count}
+use Rattle.crit.proofs.SpeltLaws.{spelt_block, spelt_placed, same_count}
 use Rattle.heal.proofs.HealReady.{within_once}
 use Rattle.heal.proofs.FreeLaws.{spelt_freeable, spelt_freed, same_free, room, within_named}
 use Rattle.remove.proofs.HealTrim.{one_row, one_size, one_joined, only, shrunk, free_all_free}
@@ -101,7 +101,7 @@ module _ {ws : List ℕ} {t root levels : ℕ} (a : AskShrink ws t root levels) 
   top_in = rw a.top (within_named a.mem.count (nums a.row ++ numbers a.rows) a.mem.s.free a.within (root_above a.row a.rows) (omega (arith, whole (root_above a.row a.rows), peak.inside)))
 
   pub top_placed : Placed ws t root
-  top_placed = spelt-placed a.spelt root top_in.0 top_in.1
+  top_placed = spelt_placed a.spelt root top_in.0 top_in.1
 
   top_room : length a.mem.s.free < a.mem.count
   top_room =
@@ -114,11 +114,11 @@ module _ {ws : List ℕ} {t root levels : ℕ} (a : AskShrink ws t root levels) 
   top_freeable = spelt_freeable a.spelt root top_in.0 top_in.1 top_room
 
   top_words : block ws t root ≡ inner_words peak.items
-  top_words = spelt-block a.spelt root top_in.0 top_in.1 ∙ ap a.mem.s.st a.top ∙ peak.words
+  top_words = spelt_block a.spelt root top_in.0 top_in.1 ∙ ap a.mem.s.st a.top ∙ peak.words
 
   -- for every state that the words spell
   top_of : (c : Cursor) (m : Mem) → Spelt ws t c m → block ws t root ≡ m.s.st root
-  top_of c m sp = spelt-block sp root top_in.0 (rw (← (same_count a.spelt sp)) top_in.1)
+  top_of c m sp = spelt_block sp root top_in.0 (rw (← (same_count a.spelt sp)) top_in.1)
 
   freed_of : (c : Cursor) (m : Mem) → Spelt ws t c m → Spelt (freed_words ws t root) t c (moved m (free_node m.s root))
   freed_of c m sp =

@@ -1,5 +1,5 @@
 -- DEFINITIONS. The end of a removal: roots with one child go, the path is shifted, and what remove asks and leaves
-use Rattle.std.specs.Prelude.{◌≡◌, List, ◌++◌, Bool, cond, eqb, ℕ, zero, suc, ◌+◌, ◌-◌, ◌≤◌, ◌<◌, length, get_or, take, drop}
+use Rattle.std.specs.Prelude.{◌≡◌, List, ◌++◌, Bool, cond, eqb, ℕ, zero, suc, ◌-◌, ◌≤◌, ◌<◌, length, get_or, take, drop}
 use Rattle.std.proofs.Math.Option.{some}
 use Rattle.forest.specs.Sizes.{inner_tag, leaf_least, most_levels}
 use Rattle.forest.specs.Lists.{pad}

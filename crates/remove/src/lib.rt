@@ -1,4 +1,6 @@
 // Taking a pair out of a tree, as the crate's path.rs has it: the only pair or one of more, roots with one child, the path that is left.
+#![tactic(auto)]
+
 ghost use Rattle.std.specs.Prelude.{◌≡◌, ◌+◌, ◌≤◌, ◌<◌, length, take, drop};
 ghost use Rattle.remove.specs.Ends.{AskShrink, Shrinks, shifted, AskLast, AskRemove, Lone, Removes};
 ghost use Rattle.remove.specs.Keys.{closed, LeafPair, less_words, only_leaf, AskKey, RemovesKey};
@@ -7,7 +9,7 @@ ghost use Rattle.forest.specs.Lists.{pad};
 use forest::Cursor;
 
 // The root once those with one child are gone, and how many went.
-#[derive(Drop)]
+#[derive(Clone, Copy)]
 struct Top {
     pub root: u32,
     pub gone: usize,

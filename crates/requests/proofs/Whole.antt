@@ -15,7 +15,7 @@ use Rattle.forest.specs.Answers.{refusal, answer_of}
 use Rattle.forest.specs.Pools.{Pool, WellFormed, encode, Call, fresh, formatted, format_words, format_answer}
 use Rattle.forest.proofs.ListLaws.{test, is, isnt}
 use Rattle.forest.proofs.CountLaws.{fresh_formed, format_in}
-use Rattle.forest.proofs.PoolLaws.{call-formed}
+use Rattle.forest.proofs.PoolLaws.{call_formed}
 use Rattle.requests.specs.declared.Stage.{Stage}
 use Rattle.requests.specs.declared.Stage.TheVariants.{Kind, Sizes, Count, Request, Stopped}
 use Rattle.requests.specs.declared.Said.TheVariants.{Line}
@@ -155,7 +155,7 @@ heeded : (o : Option Call) (words : ℕ) (ws vs : List ℕ) (p : Pool) (a : Answ
 heeded none words ws vs p a s h = record { answer = sym h.1; shown = record { formed = s.formed; same = s.same ∙ sym h.0 } }
 heeded (some c) words ws vs p a s h = record {
   answer = ap answer_of (h.promise.sound_answer p s.formed s.same) ∙ sym h.numbered;
-  shown = record { formed = call-formed leaf_least (omega arith) (omega arith) c p s.formed; same = h.promise.sound_words p s.formed s.same };
+  shown = record { formed = call_formed leaf_least (omega arith) (omega arith) c p s.formed; same = h.promise.sound_words p s.formed s.same };
 }
 
 request_read : (b : List ℕ) → request (take 16 b) ≡ request b

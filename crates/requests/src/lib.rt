@@ -1,4 +1,6 @@
 // Document 01's replay: a delivery of little-endian words, read and judged stage by stage, a line of text for each request.
+#![tactic(auto)]
+
 ghost use Rattle.std.specs.Prelude.{◌≡◌, ◌++◌, ◌+◌, ◌-◌, ◌*◌, ◌^◌, ◌≤◌, ◌<◌, min, length, take, drop};
 ghost use Rattle.forest.specs.Lists.{once};
 ghost use Rattle.forest.specs.Answers.{answer_of};
@@ -28,7 +30,7 @@ const NO_DELIVERY: u32 = 7;
 
 // What is read next: the first word; T and N; the count, for a pool of so many words; a request on such a pool, and how many
 // come after it; nothing.
-#[derive(Drop)]
+#[derive(Clone, Copy)]
 pub enum Stage {
     Kind,
     Sizes,
@@ -38,42 +40,42 @@ pub enum Stage {
 }
 
 // What is said in a turn.
-#[derive(Drop)]
+#[derive(Clone, Copy)]
 pub enum Said {
     Nothing,
     Line(Answer),
 }
 
 // What a turn hands back: what is read next, and what is said.
-#[derive(Drop)]
+#[derive(Clone, Copy)]
 pub struct Turn {
     pub stage: Stage,
     pub said: Said,
 }
 
 // How many bytes a reading asked for, and how many it got.
-#[derive(Drop)]
+#[derive(Clone, Copy)]
 pub struct Got {
     pub asked: usize,
     pub count: usize,
 }
 
 // What a turn has read: the first `got.count` of the bytes.
-#[derive(Drop)]
+#[derive(Clone, Copy)]
 pub struct Piece {
     pub bytes: [u8; 16],
     pub got: Got,
 }
 
 // What was said, and whether it was written.
-#[derive(Drop)]
+#[derive(Clone, Copy)]
 pub struct Told {
     pub said: Said,
     pub written: bool,
 }
 
 // A turn as it was taken: what was read, how it was judged, what was said.
-#[derive(Drop)]
+#[derive(Clone, Copy)]
 pub struct Taken {
     pub read: Piece,
     pub turn: Turn,

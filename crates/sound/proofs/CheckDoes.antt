@@ -21,7 +21,7 @@ use Rattle.walk.proofs.MarkLaws.{mark_all, marks_count, fresh-once, clean, has-c
 use Rattle.walk.proofs.Subtree.{Sub, crown, flat, rows_of, pairs_of, nums_of, Flagged, Each, Filled, Held, HeldTree, Fresh}
 use Rattle.walk.proofs.Towers.{tops, each_left, each_right, Wide, tree_one, rows_held, root_rows, numbers_rows, pairs_rows}
 use Rattle.walk.specs.Walks.{lastly, zeros, place, walk}
-use Rattle.walk.proofs.WalkLaws.{span, lower_some, span_pad, pad-zeros, inner-does}
+use Rattle.walk.proofs.WalkLaws.{span, lower_some, span_pad, pad-zeros, inner_does}
 use Rattle.walk.proofs.WalkExact.{store, Ranged, walk_does, meets_does, low_of, fresh_left, fresh_right, marks_append}
 use Rattle.sound.specs.Checks.{levels, wide, fine, tree_walk, trees, free_walk, all_marked, framed, stacked, filled, checked}
 use Rattle.sound.proofs.CheckLaws.{rising_climbs, Parts, parts, trees-held, nodes_part, total-reverse}
@@ -120,7 +120,7 @@ module _ (ws : List ℕ) (T N m : ℕ) where
   first_level f h n e [] r i d go = absurd (omega (arith, lower_some e 4 (omega arith), i.0))
   first_level f h n e (t ∷ ts) r i d go =
       let k : length (line (tops h ts)) ≡ length ts = length-line (tops h ts) ∙ length-map ts (crown h) in
-      let x = inner-does ws (place T n) e (low_of h t, (crown h t).num) (line (tops h ts)) d.0 (rw k i.0) (rw k i.1) in
+      let x = inner_does ws (place T n) e (low_of h t, (crown h t).num) (line (tops h ts)) d.0 (rw k i.0) (rw k i.1) in
       let p = inner_word ws (place T n) (crown (suc h) (n, t ∷ ts)).items d.0 in
       let w : get_or ws (place T n) 0 < 32 = omega (arith, p, k, i.1) in
       rw (le-leb 1 n r.0.0, le-leb n N r.0.1, lt-leb 32 (get_or ws (place T n) 0) w, x.first)
@@ -231,7 +231,7 @@ module _ (ws : List ℕ) (T N m : ℕ) where
     node-is : (k : ℕ) → 1 ≤ k → k ≤ N → st k ≡ node_words ts k
     node-is k a b =
         let e : T + 2 ≡ place T 1 = omega arith in
-        nodes_part ws T ts 1 N (omega arith) (rw e at p.nodes-same) k a (omega arith)
+        nodes_part ws T ts 1 N (omega arith) (rw e at p.nodes_same) k a (omega arith)
 
     trees-once : (k : ℕ) → count k (used ts) ≤ once (leb 1 k && leb k N)
     trees-once k = omega (arith, each_once k)
@@ -285,24 +285,24 @@ module _ (ws : List ℕ) (T N m : ℕ) where
         once-true true e = refl
         once-true false e = absurd (omega arith)
 
-    few-free : length free ≤ N
-    few-free = omega (arith, number, length-append us vs, length-reverse free)
+    few_free : length free ≤ N
+    few_free = omega (arith, number, length-append us vs, length-reverse free)
 
     stack_is : (span ws S (length free) ≡ vs) × (zeros ws (S + length free) (N - length free) ≡ true)
     stack_is =
         let l = length-reverse free in
-        let s = span_pad ws N S vs (omega (arith, few-free)) p.stack_same in
+        let s = span_pad ws N S vs (omega (arith, few_free)) p.stack_same in
         (rw l at s.0, rw l at s.1)
 
     filled_is : filled ws m T N ≡ true
     unfolding filled stacked
     filled_is =
         let x : trees ws T N m T 1 clean ≡ fine (mark_all clean us) =
-        the-trees.does T 1 clean (omega (arith, number, length-append us vs)) (each_left InN us vs ranged) (fresh_left clean us vs fresh) p.roots-same in
+        the-trees.does T 1 clean (omega (arith, number, length-append us vs)) (each_left InN us vs ranged) (fresh_left clean us vs fresh) p.roots_same in
         let y : free_walk ws T N (length free) S (mark_all clean us) ≡ fine (mark_all (mark_all clean us) vs) =
         frees_do vs (length free) S (mark_all clean us) (each_right InN us vs ranged) (fresh_right clean us vs fresh)
         (blank vs (λ k. omega (arith, total-reverse (λ z. once (eqb k z)) free)) (each_right InN us vs ranged)) stack_is.0 in
-        rw (x, p.f-same, y, stack_is.1, ← (marks_append clean us vs)) full
+        rw (x, p.f_same, y, stack_is.1, ← (marks_append clean us vs)) full
 
     framed_is : framed ws T N ≡ true
     unfolding framed
@@ -311,8 +311,8 @@ module _ (ws : List ℕ) (T N m : ℕ) where
       le-leb T 32 (omega arith),
       le-leb N 512 few,
       eq-eqb (length ws) (T + 17 * N + 3) long,
-      p.f-same,
-      le-leb (length free) N few-free,
+      p.f_same,
+      le-leb (length free) N few_free,
     )
 
 encode-checked : (ws : List ℕ) (m : ℕ) (p : Pool) → WellFormed m p → encode p ≡ ws → checked ws m ≡ true
@@ -324,7 +324,7 @@ encode-checked ws m p w e =
     let q = parts ws T N l T (map root p.trees) N (nodes_from (node_words p.trees) 1 N) (length p.free) (pad N (reverse p.free)) (length-map p.trees root) (nodes_length (node_words p.trees) 1 N (node-length p.trees)) e in
     rw (
       q.t_same,
-      q.n-same,
+      q.n_same,
       framed_is ws T N m p.trees p.free w.good w.some_trees w.few_trees w.few_nodes w.each_once refl l q,
       filled_is ws T N m p.trees p.free w.good w.some_trees w.few_trees w.few_nodes w.each_once refl l q,
     )

@@ -2,7 +2,7 @@
 use mathlib.Core.Path.{◌≡◌, refl, sym, ap, ap₂, ◌∙◌}
 use mathlib.Core.List.{List, [], ◌∷◌, ◌++◌, reverse, reverse_aux}
 use mathlib.Core.Bool.{true}
-use Prim.Native.Nat.{ℕ, zero, suc, ◌+◌, ◌-◌, ◌*◌, ◌≤◌, ◌<◌}
+use Prim.Native.Nat.{ℕ, zero, suc, ◌+◌, ◌*◌, ◌≤◌, ◌<◌}
 use native.Mathlib.Omega.{arith}
 use lib.ListN.{length, get_or, length-append}
 use lib.Seq.{get_or-append_seam, append_snoc}
@@ -67,10 +67,10 @@ module _ (ws : List ℕ) (T N : ℕ) (l : length ws ≡ T + 17 * N + 3) where
 
   pub record Parts (t : ℕ) (roots : List ℕ) (n : ℕ) (nodes : List ℕ) (f : ℕ) (stack : List ℕ) : Type 0 where
     pub t_same : get_or ws 0 0 ≡ t
-    pub roots-same : span ws 1 T ≡ roots
-    pub n-same : get_or ws (T + 1) 0 ≡ n
-    pub nodes-same : span ws (T + 2) (16 * N) ≡ nodes
-    pub f-same : get_or ws (T + 2 + 16 * N) 0 ≡ f
+    pub roots_same : span ws 1 T ≡ roots
+    pub n_same : get_or ws (T + 1) 0 ≡ n
+    pub nodes_same : span ws (T + 2) (16 * N) ≡ nodes
+    pub f_same : get_or ws (T + 2 + 16 * N) 0 ≡ f
     pub stack_same : span ws (T + 3 + 16 * N) N ≡ stack
 
   pub parts : (t : ℕ) (roots : List ℕ) (n : ℕ) (nodes : List ℕ) (f : ℕ) (stack : List ℕ) → length roots ≡ T → length nodes ≡ 16 * N →
@@ -86,7 +86,7 @@ module _ (ws : List ℕ) (T N : ℕ) (l : length ws ≡ T + 17 * N + 3) where
       let q1 : span ws (T + 2) (16 * N) ++ (get_or ws (T + 2 + 16 * N) 0 ∷ span ws (T + 3 + 16 * N) N) ≡ nodes ++ (f ∷ stack) = cc in
       let r = append_parts (span ws (T + 2) (16 * N)) nodes _ _ (length_span ws (T + 2) (16 * N) ∙ sym ln) q1 in
       let s : get_or ws (T + 2 + 16 * N) 0 ∷ span ws (T + 3 + 16 * N) N ≡ f ∷ stack = r.1 in
-      record { t_same = d0; roots-same = p.0; n-same = q0; nodes-same = r.0; f-same = cc; stack_same = cc }
+      record { t_same = d0; roots_same = p.0; n_same = q0; nodes_same = r.0; f_same = cc; stack_same = cc }
 
 -- Nodes by number
 module _ (st : ℕ → List ℕ) where

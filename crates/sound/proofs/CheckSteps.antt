@@ -39,23 +39,23 @@ module _ (ws : List ℕ) (T N : ℕ) where
 
   -- a tree
   module _ (n : ℕ) (ms : List ℕ) where
-    pub tree-none : n ≡ 0 → fine ms ≡ tree_walk ws T N leaf_least n ms
+    pub tree_none : n ≡ 0 → fine ms ≡ tree_walk ws T N leaf_least n ms
     unfolding tree_walk
-    tree-none e = rw (eq-eqb n 0 e)
+    tree_none e = rw (eq-eqb n 0 e)
 
-    pub tree-out : (x : Walked) → N < n → meets N ms n ≡ false → x ≡ bad → x ≡ tree_walk ws T N leaf_least n ms
+    pub tree_out : (x : Walked) → N < n → meets N ms n ≡ false → x ≡ bad → x ≡ tree_walk ws T N leaf_least n ms
     unfolding tree_walk
-    tree-out x h m d =
+    tree_out x h m d =
         let l = levels_out 5 n h in
         d ∙ rw (ne_eqb n 0 (omega arith), levels_out 5 n h, m)
 
-    pub tree-narrow : (x : Walked) (h : ℕ) → (n ≡ 0 → ⊥) → h ≡ levels ws T N 5 n → wide h (get_or ws (place T n) 0) ≡ false → x ≡ bad → x ≡ tree_walk ws T N leaf_least n ms
+    pub tree_narrow : (x : Walked) (h : ℕ) → (n ≡ 0 → ⊥) → h ≡ levels ws T N 5 n → wide h (get_or ws (place T n) 0) ≡ false → x ≡ bad → x ≡ tree_walk ws T N leaf_least n ms
     unfolding tree_walk
-    tree-narrow x h a e w d = d ∙ rw (ne_eqb n 0 a, ← e, w)
+    tree_narrow x h a e w d = d ∙ rw (ne_eqb n 0 a, ← e, w)
 
-    pub tree-wide : (x : Walked) (h : ℕ) → (n ≡ 0 → ⊥) → h ≡ levels ws T N 5 n → wide h (get_or ws (place T n) 0) ≡ true → x ≡ walk ws T N leaf_least h true n ms 0 → x ≡ tree_walk ws T N leaf_least n ms
+    pub tree_wide : (x : Walked) (h : ℕ) → (n ≡ 0 → ⊥) → h ≡ levels ws T N 5 n → wide h (get_or ws (place T n) 0) ≡ true → x ≡ walk ws T N leaf_least h true n ms 0 → x ≡ tree_walk ws T N leaf_least n ms
     unfolding tree_walk
-    tree-wide x h a e w d = d ∙ rw (ne_eqb n 0 a, ← e, w)
+    tree_wide x h a e w d = d ∙ rw (ne_eqb n 0 a, ← e, w)
 
 pub wide_high : (h w : ℕ) → (h ≡ 0 → ⊥) → leb 17 w ≡ wide h w
 wide_high zero w z = absurd (z refl)
@@ -84,21 +84,21 @@ module _ (ws : List ℕ) (T N r i : ℕ) (ms : List ℕ) where
     abbrev n : ℕ
     n = get_or ws (s + i) 0
 
-    pub frees-no : i < r → meets N ms n ≡ false → bad ≡ free_walk ws T N (r - i) (s + i) ms
-    frees-no h m = let d : r - i ≡ suc (r - (i + 1)) = omega arith in rw (d, m)
+    pub frees_no : i < r → meets N ms n ≡ false → bad ≡ free_walk ws T N (r - i) (s + i) ms
+    frees_no h m = let d : r - i ≡ suc (r - (i + 1)) = omega arith in rw (d, m)
 
     pub frees-full : i < r → meets N ms n ≡ true → zeros ws (place T n) 16 ≡ false → bad ≡ free_walk ws T N (r - i) (s + i) ms
     frees-full h m z = let d : r - i ≡ suc (r - (i + 1)) = omega arith in rw (d, m, z)
 
-    pub frees-on : i < r → meets N ms n ≡ true → zeros ws (place T n) 16 ≡ true → (ns : List ℕ) → ns ≡ mark ms n →
+    pub frees_on : i < r → meets N ms n ≡ true → zeros ws (place T n) 16 ≡ true → (ns : List ℕ) → ns ≡ mark ms n →
         free_walk ws T N (r - i) (s + i) ms ≡ free_walk ws T N (r - (i + 1)) (s + (i + 1)) ns
-    frees-on h m z ns e =
+    frees_on h m z ns e =
         let d : r - i ≡ suc (r - (i + 1)) = omega arith in
         let a : s + (i + 1) ≡ suc (s + i) = omega arith in
         rw (d, m, z, a, e)
 
-    pub frees-end : r ≤ i → free_walk ws T N (r - i) (s + i) ms ≡ fine ms
-    frees-end h = let d : r - i ≡ 0 = omega arith in rw d
+    pub frees_end : r ≤ i → free_walk ws T N (r - i) (s + i) ms ≡ fine ms
+    frees_end h = let d : r - i ≡ 0 = omega arith in rw d
 
 pub frees_start : (ws : List ℕ) (T N r s : ℕ) (ms : List ℕ) → free_walk ws T N (r - 0) (s + 0) ms ≡ free_walk ws T N r s ms
 frees_start ws T N r s ms = let a : r - 0 ≡ r = omega arith in let b : s + 0 ≡ s = omega arith in rw (a, b)
@@ -169,29 +169,29 @@ module _ (ws : List ℕ) where
   frame_none e = frame_trees (get_or-eq_default ws 0 (omega arith))
 
   module _ (a : T ≡ 0 → ⊥) where
-    pub frame-many : 32 < T → framed ws T N ≡ false
+    pub frame_many : 32 < T → framed ws T N ≡ false
     unfolding framed
-    frame-many h = rw (le-leb 1 T (omega arith), lt-leb T 32 h)
+    frame_many h = rw (le-leb 1 T (omega arith), lt-leb T 32 h)
 
     module _ (b : T ≤ 32) where
-      pub frame-long : (length ws ≡ T + 17 * N + 3 → ⊥) → framed ws T N ≡ false
+      pub frame_long : (length ws ≡ T + 17 * N + 3 → ⊥) → framed ws T N ≡ false
       unfolding framed
-      frame-long h = elim (test (leb N 512)) [
+      frame_long h = elim (test (leb N 512)) [
         | is g ↦ rw (le-leb 1 T (omega arith), le-leb T 32 b, g, ne_eqb (length ws) (T + 17 * N + 3) h)
         | isnt g ↦ rw (le-leb 1 T (omega arith), le-leb T 32 b, g)
       ]
 
-      pub frame-nodes : 512 < N → framed ws T N ≡ false
+      pub frame_nodes : 512 < N → framed ws T N ≡ false
       unfolding framed
-      frame-nodes h = rw (le-leb 1 T (omega arith), le-leb T 32 b, lt-leb N 512 h)
+      frame_nodes h = rw (le-leb 1 T (omega arith), le-leb T 32 b, lt-leb N 512 h)
 
-      pub frame-free : N ≤ 512 → length ws ≡ T + 17 * N + 3 → N < F → framed ws T N ≡ false
+      pub frame_free : N ≤ 512 → length ws ≡ T + 17 * N + 3 → N < F → framed ws T N ≡ false
       unfolding framed
-      frame-free n l h = rw (le-leb 1 T (omega arith), le-leb T 32 b, le-leb N 512 n, eq-eqb (length ws) (T + 17 * N + 3) l, lt-leb F N h)
+      frame_free n l h = rw (le-leb 1 T (omega arith), le-leb T 32 b, le-leb N 512 n, eq-eqb (length ws) (T + 17 * N + 3) l, lt-leb F N h)
 
-      pub frame-ok : N ≤ 512 → length ws ≡ T + 17 * N + 3 → F ≤ N → framed ws T N ≡ true
+      pub frame_ok : N ≤ 512 → length ws ≡ T + 17 * N + 3 → F ≤ N → framed ws T N ≡ true
       unfolding framed
-      frame-ok n l h = rw (le-leb 1 T (omega arith), le-leb T 32 b, le-leb N 512 n, eq-eqb (length ws) (T + 17 * N + 3) l, le-leb F N h)
+      frame_ok n l h = rw (le-leb 1 T (omega arith), le-leb T 32 b, le-leb N 512 n, eq-eqb (length ws) (T + 17 * N + 3) l, le-leb F N h)
 
 pub exact : (ws : List ℕ) (r : Bool) → r ≡ checked ws leaf_least → Exact leaf_least ws r
 exact ws r e = record { yes = λ p. check_yes ws leaf_least (sym e ∙ p); every = λ s. e ∙ check_does ws leaf_least s }

@@ -182,8 +182,8 @@ module _ (ws : List ℕ) (T N m : ℕ) where
     marks-are : (k : ℕ) → once (has (mark_all clean us) k) ≡ count k us
     marks-are k = marks_count clean us refl (all_small N us few ranged) fresh k ∙ rw (has-clean k) (omega arith)
 
-    pub once-each : (k : ℕ) → count k us ≡ once (leb 1 k && leb k N)
-    once-each k = elim (test (leb 1 k)) [
+    pub once_each : (k : ℕ) → count k us ≡ once (leb 1 k && leb k N)
+    once_each k = elim (test (leb 1 k)) [
       | isnt a ↦ simp a (each_none InN k us ranged (λ z. let b = leb-false 1 k a in omega arith))
       | is a ↦ elim (test (leb k N)) [
         | isnt b ↦ simp (a, b) (each_none InN k us ranged (λ z. let d = leb-false k N b in omega arith))
@@ -192,7 +192,7 @@ module _ (ws : List ℕ) (T N m : ℕ) where
     ]
 
   -- the pool
-  module _ (framed-ok : framed ws T N ≡ true) (filled_ok : filled ws m T N ≡ true) (t_same : get_or ws 0 0 ≡ T) (n-same : get_or ws (T + 1) 0 ≡ N) where
+  module _ (framed-ok : framed ws T N ≡ true) (filled_ok : filled ws m T N ≡ true) (t_same : get_or ws 0 0 ≡ T) (n_same : get_or ws (T + 1) 0 ≡ N) where
     abbrev F : ℕ
     F = get_or ws (T + 2 + 16 * N) 0
 
@@ -213,7 +213,7 @@ module _ (ws : List ℕ) (T N m : ℕ) where
       pub few_trees : T ≤ 32
       pub few_nodes : N ≤ 512
       pub long : length ws ≡ T + 17 * N + 3
-      pub few-free : F ≤ N
+      pub few_free : F ≤ N
 
     frame : Frame
     unfolding framed
@@ -225,7 +225,7 @@ module _ (ws : List ℕ) (T N m : ℕ) where
           few_trees = leb-true T 32 b.0;
           few_nodes = leb-true N 512 b.1;
           long = eqb-true (length ws) (T + 17 * N + 3) b.2;
-          few-free = leb-true F N b.3;
+          few_free = leb-true F N b.3;
         }
 
     walked-trees : TreesYes ts us (span ws 1 T) clean (trees ws T N m T 1 clean)
@@ -233,7 +233,7 @@ module _ (ws : List ℕ) (T N m : ℕ) where
     walked-trees = trees_yes T 1 clean (both (trees ws T N m T 1 clean).ok (stacked ws T N F (trees ws T N m T 1 clean).marks) filled_ok).0
 
     pub record Rest : Type 0 where
-      pub frees-ok : FreesYes (span ws S F) (mark_all clean us) (free_walk ws T N F S (mark_all clean us))
+      pub frees_ok : FreesYes (span ws S F) (mark_all clean us) (free_walk ws T N F S (mark_all clean us))
       pub empty : zeros ws (S + F) (N - F) ≡ true
       pub full : all_marked (mark_all clean (us ++ span ws S F)) N ≡ true
 
@@ -248,7 +248,7 @@ module _ (ws : List ℕ) (T N m : ℕ) where
         let b = both (zeros ws (S + F) (N - F)) (all_marked y.marks N) a.1 in
         let f = frees_yes F S (mark_all clean us) a.0 in
         record {
-          frees-ok = f;
+          frees_ok = f;
           empty = b.0;
           full = subst (λ (l : List ℕ). all_marked l N ≡ true) (ap (λ (x : Walked). x.marks) f.out ∙ sym (marks_append clean us (span ws S F))) b.1;
         }
@@ -257,12 +257,12 @@ module _ (ws : List ℕ) (T N m : ℕ) where
     each_once k =
         rw (walked-trees.numbered (λ x. once (eqb k x)), total-reverse (λ x. once (eqb k x)) (span ws S F))
         (sym (count-append k us (span ws S F)) ∙
-        once-each frame.few_nodes (us ++ span ws S F) (each_join InN us (span ws S F) walked-trees.ranged the_rest.frees-ok.ranged)
-        (fresh_join clean us (span ws S F) walked-trees.fresh the_rest.frees-ok.fresh) the_rest.full k)
+        once_each frame.few_nodes (us ++ span ws S F) (each_join InN us (span ws S F) walked-trees.ranged the_rest.frees_ok.ranged)
+        (fresh_join clean us (span ws S F) walked-trees.fresh the_rest.frees_ok.fresh) the_rest.full k)
 
     node-same : (k : ℕ) → 1 ≤ k → k ≤ N → span ws (place T k) 16 ≡ node_words ts k
     node-same k a b =
-        sym (trees_find st k ts (pad 16 []) walked-trees.held (λ z. sym (each_at (λ n. st n ≡ pad 16 []) k (span ws S F) the_rest.frees-ok.blank
+        sym (trees_find st k ts (pad 16 []) walked-trees.held (λ z. sym (each_at (λ n. st n ≡ pad 16 []) k (span ws S F) the_rest.frees_ok.blank
         (let e = rw (le-leb 1 k a, le-leb k N b, total-reverse (λ x. once (eqb k x)) (span ws S F)) at (each_once k) in omega arith))))
 
     formed : WellFormed m pool
@@ -283,11 +283,11 @@ module _ (ws : List ℕ) (T N m : ℕ) where
         let f : length (reverse (span ws S F)) ≡ F = length-reverse (span ws S F) ∙ length_span ws S F in
         let p : place T 1 ≡ T + 2 = omega arith in
         let n : span ws (T + 2) (16 * N) ≡ nodes_from (node_words ts) 1 N = rw p at (nodes_join ws T ts 1 N (omega arith) (λ k a b. node-same k a (omega arith))) in
-        rw (l, walked-trees.rooted, ← n, f, reverse-reverse (span ws S F), pad_span ws N F S frame.few-free the_rest.empty)
-        (sym (layout ws T N frame.long ∙ rw (t_same, n-same)))
+        rw (l, walked-trees.rooted, ← n, f, reverse-reverse (span ws S F), pad_span ws N F S frame.few_free the_rest.empty)
+        (sym (layout ws T N frame.long ∙ rw (t_same, n_same)))
 
-    pub sound-of : Sound m ws
-    sound-of = record { pool = pool; formed = formed; same = same_words }
+    pub sound_of : Sound m ws
+    sound_of = record { pool = pool; formed = formed; same = same_words }
 
 -- the check says yes: the words are sound
 pub check_yes : (ws : List ℕ) (m : ℕ) → checked ws m ≡ true → Sound m ws
@@ -296,4 +296,4 @@ check_yes ws m c =
     let T = get_or ws 0 0 in
     let N = get_or ws (get_or ws 0 0 + 1) 0 in
     let b = both (framed ws T N) (filled ws m T N) c in
-    sound-of ws T N m b.0 b.1 refl refl
+    sound_of ws T N m b.0 b.1 refl refl

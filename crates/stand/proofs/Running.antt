@@ -22,7 +22,7 @@ use Rattle.path.specs.Cores.{Ready, Of}
 use Rattle.path.proofs.NodeWords.{grouped}
 use Rattle.path.proofs.Laid.{Laid, RowIn, RowsIn, size_bounds, ParentRow, parent_row, child_at, child_of, parent_in, offset_in, inside, leaf_first, inner_first}
 use Rattle.path.proofs.Steps.{first_word, link_word_at, lies_of, child_deep}
-use Rattle.path.proofs.Roots.{root_is, lies-there, some_root}
+use Rattle.path.proofs.Roots.{root_is, lies_there, some_root}
 use Rattle.walk.specs.Walks.{zeros}
 use Rattle.stand.specs.Runs.{ended, runs_from, levels_from, stands_at, Tells}
 
@@ -173,7 +173,7 @@ stands_words ws t c y p o = ap (λ (b : Bool). clean c && b) (go (tree_of p c.tr
         let n = some_root ws t c.tree y p o L Rs q in
         let k : suc s - 0 ≡ suc s = omega arith in
         rw (z, q, ne_eqb (root_above L Rs) 0 (omega arith), e, ne_eqb (suc s) 0 (omega arith), k)
-        (runs_words ws t L Rs (lies-there ws t c.tree y p o L Rs q) (levels_of (suc s) c.nodes c.places) (omega arith))
+        (runs_words ws t L Rs (lies_there ws t c.tree y p o L Rs q) (levels_of (suc s) c.nodes c.places) (omega arith))
 
 pub tells_by : (ws : List ℕ) (t : ℕ) (c : Cursor) (r : Bool) → Ready ws t c.tree → r ≡ stands_at ws t (get_or ws (1 + c.tree) 0) c → Tells ws c r
 tells_by ws t c r y e = record { tells = λ p o. e ∙ stands_words ws t c y p o }
@@ -199,13 +199,13 @@ module _ (ws : List ℕ) (t n : ℕ) (c : Cursor) where
   stands_large h = simp (lt-leb c.size most_levels h)
 
   module _ (h : c.size ≤ 16) (ln : length c.nodes ≡ 16) (lp : length c.places ≡ 16) where
-    pub stands-nodes : zeros c.nodes c.size (16 - c.size) ≡ false → false ≡ stands_at ws t n c
+    pub stands_nodes : zeros c.nodes c.size (16 - c.size) ≡ false → false ≡ stands_at ws t n c
     unfolding stands_at clean
-    stands-nodes z = simp (le-leb c.size most_levels h, sym (zeros-drop c.nodes c.size (16 - c.size) (omega arith)) ∙ z)
+    stands_nodes z = simp (le-leb c.size most_levels h, sym (zeros-drop c.nodes c.size (16 - c.size) (omega arith)) ∙ z)
 
-    pub stands-places : zeros c.nodes c.size (16 - c.size) ≡ true → zeros c.places c.size (16 - c.size) ≡ false → false ≡ stands_at ws t n c
+    pub stands_places : zeros c.nodes c.size (16 - c.size) ≡ true → zeros c.places c.size (16 - c.size) ≡ false → false ≡ stands_at ws t n c
     unfolding stands_at clean
-    stands-places y z =
+    stands_places y z =
         simp (
           le-leb c.size most_levels h,
           sym (zeros-drop c.nodes c.size (16 - c.size) (omega arith)) ∙ y,
@@ -222,13 +222,13 @@ module _ (ws : List ℕ) (t n : ℕ) (c : Cursor) where
             sym (zeros-drop c.places c.size (16 - c.size) (omega arith)) ∙ z,
           )
 
-      pub stands-off : c.size ≡ 0 → true ≡ stands_at ws t n c
+      pub stands_off : c.size ≡ 0 → true ≡ stands_at ws t n c
       unfolding stands_at
-      stands-off e = simp (stands-clean, eq-eqb c.size 0 e)
+      stands_off e = simp (stands-clean, eq-eqb c.size 0 e)
 
-      pub stands-empty : (c.size ≡ 0 → ⊥) → n ≡ 0 → false ≡ stands_at ws t n c
+      pub stands_empty : (c.size ≡ 0 → ⊥) → n ≡ 0 → false ≡ stands_at ws t n c
       unfolding stands_at
-      stands-empty e k = simp (stands-clean, ne_eqb c.size 0 e, eq-eqb n 0 k)
+      stands_empty e k = simp (stands-clean, ne_eqb c.size 0 e, eq-eqb n 0 k)
 
       pub stands-runs : (r : Bool) → (c.size ≡ 0 → ⊥) → (n ≡ 0 → ⊥) → r ≡ runs_from ws t n (levels_from c 0) → r ≡ stands_at ws t n c
       unfolding stands_at
@@ -247,11 +247,11 @@ module _ (ws : List ℕ) (t n : ℕ) (c : Cursor) (l : ℕ) where
 
   module _ (h : l < c.size) where
     -- the node of level l lies in the words, and so does its child at the next
-    pub node-lies : Deep (c.size - l) ws t n → Lies ws t n
-    node-lies d = lies_of (c.size - l) ws t n (λ (z : c.size - l ≡ 0). omega arith) d
+    pub node_lies : Deep (c.size - l) ws t n → Lies ws t n
+    node_lies d = lies_of (c.size - l) ws t n (λ (z : c.size - l ≡ 0). omega arith) d
 
-    pub child-below : Deep (c.size - l) ws t n → get_or ws (base t n) 0 < 32 → get_or c.places l 0 ≤ get_or ws (base t n) 0 - 16 → Deep (c.size - (l + 1)) ws t (get_or ws (base t n + 8 + get_or c.places l 0) 0)
-    child-below d w k =
+    pub child_below : Deep (c.size - l) ws t n → get_or ws (base t n) 0 < 32 → get_or c.places l 0 ≤ get_or ws (base t n) 0 - 16 → Deep (c.size - (l + 1)) ws t (get_or ws (base t n + 8 + get_or c.places l 0) 0)
+    child_below d w k =
         let e : c.size - l - 1 ≡ c.size - (l + 1) = omega arith in
         rw (← e) (child_deep (c.size - l) ws t n (get_or c.places l 0) (λ (z : c.size - l ≡ 0). omega arith) d w k)
 
@@ -259,13 +259,13 @@ module _ (ws : List ℕ) (t n : ℕ) (c : Cursor) (l : ℕ) where
     runs_other k = rw (levels-cons c l h, ne_eqb (get_or c.nodes l 0) n k)
 
     module _ (e : get_or c.nodes l 0 ≡ n) where
-      pub runs-long : 32 ≤ get_or ws (base t n) 0 → l + 1 < c.size → false ≡ runs_from ws t n (levels_from c l)
-      runs-long w k =
+      pub runs_long : 32 ≤ get_or ws (base t n) 0 → l + 1 < c.size → false ≡ runs_from ws t n (levels_from c l)
+      runs_long w k =
           let b = le-leb 32 (get_or (block ws t n) 0 0) (rw first_word w) in
           rw (levels-cons c l h, eq-eqb (get_or c.nodes l 0) n e, b, levels-cons c (l + 1) k)
 
-      pub runs-leaf : 32 ≤ get_or ws (base t n) 0 → c.size ≤ l + 1 → leb (get_or c.places l 0) (get_or ws (base t n) 0 - 32) ≡ runs_from ws t n (levels_from c l)
-      runs-leaf w k =
+      pub runs_leaf : 32 ≤ get_or ws (base t n) 0 → c.size ≤ l + 1 → leb (get_or c.places l 0) (get_or ws (base t n) 0 - 32) ≡ runs_from ws t n (levels_from c l)
+      runs_leaf w k =
           let b = le-leb 32 (get_or (block ws t n) 0 0) (rw first_word w) in
           let z : c.size - (l + 1) ≡ 0 = omega arith in
           rw (levels-cons c l h, eq-eqb (get_or c.nodes l 0) n e, b, z, first_word ws (base t n)) (moved (get_or c.places l 0) (get_or ws (base t n) 0) w)

@@ -1,4 +1,6 @@
 // Where a cursor stands.
+#![tactic(auto)]
+
 ghost use Rattle.std.specs.Prelude.{◌≡◌, ◌-◌, ◌≤◌};
 ghost use Rattle.forest.specs.Sizes.{most_trees, most_levels};
 ghost use Rattle.path.specs.Ways.{Deep};

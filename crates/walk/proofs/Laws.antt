@@ -89,33 +89,33 @@ module _ (ws : List ℕ) (b : ℕ) (e : Bool) (l : ℕ) where
   w = get_or ws b 0
 
   module _ (q : l ≡ lower e leaf_least) where
-    pub leaf-low : w < 32 + l → false ≡ leaf_fits ws leaf_least b e
+    pub leaf_low : w < 32 + l → false ≡ leaf_fits ws leaf_least b e
     unfolding leaf_fits
-    leaf-low h = rw (lt-leb (32 + lower e leaf_least) w (omega arith))
+    leaf_low h = rw (lt-leb (32 + lower e leaf_least) w (omega arith))
 
-    pub leaf-high : 39 < w → false ≡ leaf_fits ws leaf_least b e
+    pub leaf_high : 39 < w → false ≡ leaf_fits ws leaf_least b e
     unfolding leaf_fits
-    leaf-high h = elim (test (leb (32 + lower e leaf_least) w)) [ is f ↦ rw (f, lt-leb w 39 h) | isnt f ↦ rw f ]
+    leaf_high h = elim (test (leb (32 + lower e leaf_least) w)) [ is f ↦ rw (f, lt-leb w 39 h) | isnt f ↦ rw f ]
 
-    pub leaf-rest : (r s : Bool) → 32 + l ≤ w → w ≤ 39 → r ≡ zeros ws (b + 1 + (w - 32)) (7 - (w - 32)) → r && zeros ws (b + 8 + (w - 32)) (8 - (w - 32)) ≡ s → s ≡ leaf_fits ws leaf_least b e
+    pub leaf_rest : (r s : Bool) → 32 + l ≤ w → w ≤ 39 → r ≡ zeros ws (b + 1 + (w - 32)) (7 - (w - 32)) → r && zeros ws (b + 8 + (w - 32)) (8 - (w - 32)) ≡ s → s ≡ leaf_fits ws leaf_least b e
     unfolding leaf_fits
-    leaf-rest r s g h z y =
+    leaf_rest r s g h z y =
         let c : 39 - w ≡ 7 - (w - 32) = omega arith in
         let d : 40 - w ≡ 8 - (w - 32) = omega arith in
         sym y ∙ rw (c, d, le-leb (32 + lower e leaf_least) w (omega arith), le-leb w 39 h, z)
 
   module _ (q : l ≡ lower e 4) where
-    pub inner-low : w < 15 + l → false ≡ inner_fits ws b e
+    pub inner_low : w < 15 + l → false ≡ inner_fits ws b e
     unfolding inner_fits
-    inner-low h = rw (lt-leb (15 + lower e 4) w (omega arith))
+    inner_low h = rw (lt-leb (15 + lower e 4) w (omega arith))
 
-    pub inner-high : 23 < w → false ≡ inner_fits ws b e
+    pub inner_high : 23 < w → false ≡ inner_fits ws b e
     unfolding inner_fits
-    inner-high h = elim (test (leb (15 + lower e 4) w)) [ is f ↦ rw (f, lt-leb w 23 h) | isnt f ↦ rw f ]
+    inner_high h = elim (test (leb (15 + lower e 4) w)) [ is f ↦ rw (f, lt-leb w 23 h) | isnt f ↦ rw f ]
 
-    pub inner-rest : (r s : Bool) → 15 + l ≤ w → w ≤ 23 → r ≡ zeros ws (b + (w - 15)) (8 - (w - 15)) → r && zeros ws (b + 8 + (w - 15)) (8 - (w - 15)) ≡ s → s ≡ inner_fits ws b e
+    pub inner_rest : (r s : Bool) → 15 + l ≤ w → w ≤ 23 → r ≡ zeros ws (b + (w - 15)) (8 - (w - 15)) → r && zeros ws (b + 8 + (w - 15)) (8 - (w - 15)) ≡ s → s ≡ inner_fits ws b e
     unfolding inner_fits
-    inner-rest r s g h z y =
+    inner_rest r s g h z y =
         let c : 23 - w ≡ 8 - (w - 15) = omega arith in
         sym y ∙ rw (c, le-leb (15 + lower e 4) w (omega arith), le-leb w 23 h, z)
 

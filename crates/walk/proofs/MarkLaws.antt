@@ -22,8 +22,8 @@ abbrev pub mark_all : List ℕ → List ℕ → List ℕ
 mark_all ms [] = ms
 mark_all ms (n ∷ ns) = mark_all (mark ms n) ns
 
-bit_or : (a b i : ℕ) → bit (bit_or a b) i ≡ max (bit a i) (bit b i)
-bit_or a b i =
+bit_or_lem : (a b i : ℕ) → bit (bit_or a b) i ≡ max (bit a i) (bit b i)
+bit_or_lem a b i =
     let x = a / (2 ^ i) in
     let y = b / (2 ^ i) in
     rw (or_shr a b i, or_step (a / (2 ^ i)) (b / (2 ^ i)))
@@ -76,12 +76,12 @@ module _ (ms : List ℕ) (i : ℕ) (l : length ms ≡ 8) (g : i < 512) where
               let r : j % 64 ≡ i % 64 = eqb-true (j % 64) (i % 64) d in
               let s : j ≡ i = omega arith in
               let b : bit (get_or (mark ms (suc i)) (i / 64) 0) (i % 64) ≡ 1 =
-              rw (marked_word i refl, bit_or (get_or ms (i / 64) 0) (2 ^ (i % 64)) (i % 64), bit_pow (i % 64) (i % 64), eq-eqb (i % 64) (i % 64) refl)
+              rw (marked_word i refl, bit_or_lem (get_or ms (i / 64) 0) (2 ^ (i % 64)) (i % 64), bit_pow (i % 64) (i % 64), eq-eqb (i % 64) (i % 64) refl)
               (omega (arith, mod-lt (get_or ms (i / 64) 0 / (2 ^ (i % 64))) {m = 2} (omega arith))) in
               rw (s, has_word (mark ms (suc i)) i, b, f, eq-eqb (suc i) (suc i) refl)
           | isnt d ↦
               let b : bit (get_or (mark ms (suc i)) (j / 64) 0) (j % 64) ≡ bit (get_or ms (j / 64) 0) (j % 64) =
-              rw (marked_word j q, bit_or (get_or ms (i / 64) 0) (2 ^ (i % 64)) (j % 64), bit_pow (i % 64) (j % 64), d, q) (max-zero _) in
+              rw (marked_word j q, bit_or_lem (get_or ms (i / 64) 0) (2 ^ (i % 64)) (j % 64), bit_pow (i % 64) (j % 64), d, q) (max-zero _) in
               let n : (j ≡ i) → ⊥ = λ p. eqb-false (j % 64) (i % 64) d (ap (λ (x : ℕ). x % 64) p) in
               rw (has_word (mark ms (suc i)) j, b, has_word ms j, ne_eqb (suc j) (suc i) (λ p. n (omega arith))) (omega arith)
         ]

@@ -2,7 +2,7 @@
 use mathlib.Core.Path.{◌≡◌, refl, sym, ap, ◌∙◌, subst}
 use mathlib.Core.List.{List, [], ◌∷◌, ◌++◌}
 use mathlib.Core.Bool.{Bool, true, false, cond, true≢false, ◌&&◌, not}
-use Prim.Native.Nat.{ℕ, zero, suc, ◌+◌, ◌-◌, ◌≤◌}
+use Prim.Native.Nat.{ℕ, zero, suc, ◌+◌, ◌≤◌}
 use native.Mathlib.Omega.{arith}
 use lib.ListN.{length, get_or, length-map}
 use lib.Dec.{leb, eqb}
@@ -17,7 +17,7 @@ use Rattle.walk.specs.Walks.{lastly}
 use Rattle.walk.proofs.MarkLaws.{mark_all}
 use Rattle.walk.proofs.Towers.{tops, each_join, each_left, each_right}
 use Rattle.walk.specs.Walks.{climbs, ends, bad, place, meets, leaf_fits, leaf_items, leaf_walk, inner_fits, rest, others, inner_walk, walk}
-use Rattle.walk.proofs.WalkLaws.{span, lower_some, leaf-yes, leaf-does, inner-yes, inner-does}
+use Rattle.walk.proofs.WalkLaws.{span, lower_some, leaf_yes, leaf_does, inner_yes, inner_does}
 use Rattle.forest.proofs.RowLaws.{length-line}
 
 -- Appended lists
@@ -226,7 +226,7 @@ module _ (ws : List ℕ) (T N m : ℕ) where
     inner-fit : (t : Sub h) (ts : List (Sub h)) (i : inner_fits ws p e ≡ true) → length ts ≡ length (others ws p) → line (tops h ts) ≡ others ws p → (crown h t).num ≡ get_or ws (p + 8) 0 →
         Fits h e (t ∷ ts) (mark ms n) q → Fit (suc h) e (n, t ∷ ts) ms q
     inner-fit t ts i l s u f =
-        let y = inner-yes ws p e i (lower_some e 4 (omega arith)) in
+        let y = inner_yes ws p e i (lower_some e 4 (omega arith)) in
         record {
           ranged = ((a, b), f.ranged);
           fresh = (c, f.fresh);
@@ -249,7 +249,7 @@ module _ (ws : List ℕ) (T N m : ℕ) where
     | is c ↦
         let a = meets_yes ms n c in
         let l = leaf_walk_yes_lem (place T n) e (mark ms n) q (simp c at r) in
-        let y = leaf-yes ws (place T n) m e l.0 in
+        let y = leaf_yes ws (place T n) m e l.0 in
         simp c (record {
           fit = record {
             ranged = ((a.0, a.1), tt);
@@ -294,7 +294,7 @@ module _ (ws : List ℕ) (T N m : ℕ) where
   inner_met h f does e n [] ms q g = absurd (omega (arith, lower_some e 4 (omega arith), g.filled.0))
   inner_met h f does e n (t ∷ ts) ms q g =
       let k : length (line (tops h ts)) ≡ length ts = length-line (tops h ts) ∙ length-map ts (crown h) in
-      let i = inner-does ws (place T n) e (low_of h t, (crown h t).num) (line (tops h ts)) g.held.0 (rw k g.filled.0) (rw k g.filled.1) in
+      let i = inner_does ws (place T n) e (low_of h t, (crown h t).num) (line (tops h ts)) g.held.0 (rw k g.filled.0) (rw k g.filled.1) in
       let p = fits-parts h e t ts (mark ms n) q (record { ranged = g.ranged.1; fresh = g.fresh.1; rising = g.rising; filled = g.filled.2; held = g.held.1 }) in
       let d : f (lastly e (line (tops h ts))) (crown h t).num (mark ms n) q ≡ met1 h t (mark ms n) q =
       rw (lastly-line h e ts) (does (lastly e ts) t (mark ms n) q p.0) in
@@ -304,6 +304,6 @@ module _ (ws : List ℕ) (T N m : ℕ) where
   pub walk_does : (h : ℕ) (e : Bool) (t : Sub h) (ms : List ℕ) (q : ℕ) → Fit h e t ms q → walk ws T N m h e (crown h t).num ms q ≡ met1 h t ms q
   unfolding leaf_walk inner_walk
   walk_does zero e t ms q f =
-      let d = leaf-does ws (place T t.num) m e t.items f.held f.filled.0 f.filled.1 in
+      let d = leaf_does ws (place T t.num) m e t.items f.held f.filled.0 f.filled.1 in
       rw (meets_does ms t.num f.ranged.0.0 f.ranged.0.1 f.fresh.0, d.0, d.1, f.rising)
   walk_does (suc h) e t ms q f = inner_met h (walk ws T N m h) (walk_does h) e t.0 t.1 ms q f

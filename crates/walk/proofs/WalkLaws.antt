@@ -124,9 +124,9 @@ module _ (ws : List ℕ) (b : ℕ) where
       pub enough : lower e m ≤ length (leaf_items ws b)
       pub most : length (leaf_items ws b) ≤ 7
 
-    pub leaf-yes : leaf_fits ws m b e ≡ true → LeafYes
+    pub leaf_yes : leaf_fits ws m b e ≡ true → LeafYes
     unfolding leaf_fits
-    leaf-yes f =
+    leaf_yes f =
         let t =
         four (leb (32 + lower e m) (get_or ws b 0)) (leb (get_or ws b 0) 39) (zeros ws (b + 1 + (get_or ws b 0 - 32)) (39 - get_or ws b 0))
         (zeros ws (b + 8 + (get_or ws b 0 - 32)) (40 - get_or ws b 0)) f in
@@ -150,9 +150,9 @@ module _ (ws : List ℕ) (b : ℕ) where
           most = omega arith;
         }
 
-    pub leaf-does : (xs : List Item) → span ws b 16 ≡ leaf_words xs → lower e m ≤ length xs → length xs ≤ 7 → (leaf_fits ws m b e ≡ true) × (leaf_items ws b ≡ xs)
+    pub leaf_does : (xs : List Item) → span ws b 16 ≡ leaf_words xs → lower e m ≤ length xs → length xs ≤ 7 → (leaf_fits ws m b e ≡ true) × (leaf_items ws b ≡ xs)
     unfolding leaf_fits
-    leaf-does xs t g h =
+    leaf_does xs t g h =
         let p = node_parts (32 + length xs) (map (λ (x : Item). x.0) xs) (map (λ (x : Item). x.1) xs) t in
         let k = length-map xs (λ (x : Item). x.0) in
         let v = length-map xs (λ (x : Item). x.1) in
@@ -180,9 +180,9 @@ module _ (ws : List ℕ) (b : ℕ) where
       pub enough : lower e 4 ≤ suc (length (others ws b))
       pub most : suc (length (others ws b)) ≤ 8
 
-    pub inner-yes : inner_fits ws b e ≡ true → 1 ≤ lower e 4 → InnerYes
+    pub inner_yes : inner_fits ws b e ≡ true → 1 ≤ lower e 4 → InnerYes
     unfolding inner_fits
-    inner-yes f o =
+    inner_yes f o =
         let t =
         four (leb (15 + lower e 4) (get_or ws b 0)) (leb (get_or ws b 0) 23) (zeros ws (b + (get_or ws b 0 - 15)) (23 - get_or ws b 0))
         (zeros ws (b + 8 + (get_or ws b 0 - 15)) (23 - get_or ws b 0)) f in
@@ -216,9 +216,9 @@ module _ (ws : List ℕ) (b : ℕ) where
       pub first : get_or ws (b + 8) 0 ≡ x.1
       pub same : others ws b ≡ xs
 
-    pub inner-does : (x : Item) (xs : List Item) → span ws b 16 ≡ inner_words (x ∷ xs) → lower e 4 ≤ suc (length xs) → suc (length xs) ≤ 8 → InnerDoes x xs
+    pub inner_does : (x : Item) (xs : List Item) → span ws b 16 ≡ inner_words (x ∷ xs) → lower e 4 ≤ suc (length xs) → suc (length xs) ≤ 8 → InnerDoes x xs
     unfolding inner_fits
-    inner-does x xs t g h =
+    inner_does x xs t g h =
         let p = node_parts (16 + (suc (length xs) - 1)) (map (λ (y : Item). y.0) xs) (x.1 ∷ map (λ (y : Item). y.1) xs) t in
         let k = length-map xs (λ (y : Item). y.0) in
         let v = length-map xs (λ (y : Item). y.1) in

@@ -73,9 +73,9 @@ module _ (ws : List ℕ) (T N : ℕ) (e : Bool) (n : ℕ) (ms : List ℕ) (q : �
     first_walk : walk ws T N leaf_least (h - 1) (lastly e (others ws p)) (get_or ws (p + 8) 0) (mark ms n) q ≡ y
     first_walk = rw (first_flag i, ← g, ← j) (sym w)
 
-    pub walk-first-no : (x : Walked) → y.ok ≡ false → x ≡ bad → x ≡ walk ws T N leaf_least h e n ms q
+    pub walk-first_no : (x : Walked) → y.ok ≡ false → x ≡ bad → x ≡ walk ws T N leaf_least h e n ms q
     unfolding inner_walk
-    walk-first-no x o d = d ∙ rw (levels, f, i, first_walk, o)
+    walk-first_no x o d = d ∙ rw (levels, f, i, first_walk, o)
 
     pub walk-rest : (r : Walked) → left_of_lem ws T N h e p (get_or ws p 0 - 15) 1 y.marks y.low y.next ≡ r → y.ok ≡ true → r ≡ walk ws T N leaf_least h e n ms q
     unfolding inner_walk left_of_lem
@@ -101,17 +101,17 @@ module _ (ws : List ℕ) (T N h : ℕ) (e : Bool) (b c k : ℕ) (ms : List ℕ) 
     child : walk ws T N leaf_least (h - 1) (lastly e (items ws (suc (b + k)) (suc (b + 8 + k)) (c - (k + 1)))) (get_or ws (b + 8 + k) 0) ms q ≡ y
     child = rw (lastly-items ws e (suc (b + k)) (suc (b + 8 + k)) (k + 1) c (omega arith), ← g) (sym w)
 
-    pub rest-no : (x r : Walked) → here ≡ r → x ≡ bad → y.ok ≡ false → x ≡ r
+    pub rest_no : (x r : Walked) → here ≡ r → x ≡ bad → y.ok ≡ false → x ≡ r
     unfolding left_of_lem
-    rest-no x r a d o = d ∙ rw (one_more, child, o) at a
+    rest_no x r a d o = d ∙ rw (one_more, child, o) at a
 
-    pub rest-low : (x r : Walked) → here ≡ r → x ≡ bad → y.ok ≡ true → (y.low ≡ get_or ws (b + k) 0 → ⊥) → x ≡ r
+    pub rest_low : (x r : Walked) → here ≡ r → x ≡ bad → y.ok ≡ true → (y.low ≡ get_or ws (b + k) 0 → ⊥) → x ≡ r
     unfolding left_of_lem
-    rest-low x r a d o j = d ∙ rw (one_more, child, o, ne_eqb y.low (get_or ws (b + k) 0) j) at a
+    rest_low x r a d o j = d ∙ rw (one_more, child, o, ne_eqb y.low (get_or ws (b + k) 0) j) at a
 
-    pub rest-on : (r : Walked) → r ≡ here → y.ok ≡ true → y.low ≡ get_or ws (b + k) 0 → r ≡ left_of_lem ws T N h e b c (k + 1) y.marks low y.next
+    pub rest_on : (r : Walked) → r ≡ here → y.ok ≡ true → y.low ≡ get_or ws (b + k) 0 → r ≡ left_of_lem ws T N h e b c (k + 1) y.marks low y.next
     unfolding left_of_lem
-    rest-on r a o j =
+    rest_on r a o j =
         let s : b + (k + 1) ≡ suc (b + k) = omega arith in
         let t : b + 8 + (k + 1) ≡ suc (b + 8 + k) = omega arith in
         a ∙ rw (one_more, child, o, eq-eqb y.low (get_or ws (b + k) 0) j, s, t)

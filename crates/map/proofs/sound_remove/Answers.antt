@@ -1,0 +1,53 @@
+use mathlib.Core.Path.{sym, ◌∙◌}
+use native.Mathlib.Omega.{arith}
+use Rattle.forest.specs.Pools.{remove}
+use Rattle.path.proofs.Roots.{root-place}
+use Rattle.path.proofs.Foots.{ends_in, ends_looks}
+use Rattle.map.proofs.Gating.{held_other}
+use Rattle.map.proofs.Promising.{gated_calls}
+use Rattle.map.proofs.Removing.{held_nothing, removed-calls, absent_calls, empty_calls, place_few, ask_key}
+use Rattle.map.proofs.sound_remove.Goals as goal
+
+pub root-requires : goal.root-requires
+root-requires c =
+    let y = c.gate.ensures.passes c.in-Open.t c.in-Open.is in
+    omega (arith, root-place c.args.ws.now _ c.args.tree y)
+
+pub returns-then-root-eq0 : goal.returns-then-root-eq0
+returns-then-root-eq0 c =
+    let y = c.gate.ensures.passes c.in-Open.t c.in-Open.is in
+    empty_calls c.args.ws.now _ c.args.tree c.args.key _ y c.root.ensures c.if-root-eq0.true
+
+pub look_in-look-requires : goal.look_in-look-requires
+look_in-look-requires c = let y = c.gate.ensures.passes c.in-Open.t c.in-Open.is in
+    let d = c.find_leaf-foot.ensures in record {
+      leaf_in = ends_in c.args.ws.now _ c.args.tree y c.args.key _ _ d;
+      e_bound = place_few c.args.ws.now _ c.args.tree c.args.key _ _ y d;
+    }
+
+pub returns-in_default : goal.returns-in_default
+returns-in_default c =
+    let y = c.gate.ensures.passes c.in-Open.t c.in-Open.is in
+    let o = ends_looks c.args.ws.now _ c.args.tree y c.args.key _ _ c.find_leaf-foot.ensures in
+    absent_calls c.args.ws.now _ c.args.tree c.args.key y _ o (held_nothing _ _ (sym c.look_in-look.ensures ∙ c.in_default.is))
+
+pub returns-then-k-key : goal.returns-then-k-key
+returns-then-k-key c =
+    let y = c.gate.ensures.passes c.in-Open.t c.in-Open.is in
+    let o = ends_looks c.args.ws.now _ c.args.tree y c.args.key _ _ c.find_leaf-foot.ensures in
+    absent_calls c.args.ws.now _ c.args.tree c.args.key y _ o (sym (held_other _ _ _ _ (sym c.look_in-look.ensures ∙ c.in-Pair.is) c.if-k-key.true))
+
+pub remove_key-requires : goal.remove_key-requires
+remove_key-requires c =
+    let y = c.gate.ensures.passes c.in-Open.t c.in-Open.is in
+    ask_key c.args.ws.now _ c.args.tree c.args.key _ _ y c.find_leaf-foot.ensures _ _ (sym c.look_in-look.ensures ∙ c.in-Pair.is)
+
+pub returns-in-Shut : goal.returns-in-Shut
+returns-in-Shut c =
+    gated_calls (remove c.args.tree c.args.key) c.args.ws.now c.in-Shut.why c.requires (c.gate.ensures.shut c.in-Shut.why c.in-Shut.is)
+
+pub returns-else-k-key : goal.returns-else-k-key
+returns-else-k-key c =
+    let y = c.gate.ensures.passes c.in-Open.t c.in-Open.is in
+    let o = ends_looks c.args.ws.now _ c.args.tree y c.args.key _ _ c.find_leaf-foot.ensures in
+    removed-calls c.args.ws.now _ c.args.tree c.args.key y _ o _ _ (sym c.look_in-look.ensures ∙ c.in-Pair.is) c.if-k-key.false _ c.remove_key.ensures

@@ -1,0 +1,8 @@
+use Rattle.map.proofs.Gating.{stood_ready}
+use Rattle.map.proofs.Promising.{settle_moves}
+use Rattle.map.proofs.sound_settle.Goals as goal
+
+pub returns : goal.returns
+returns c =
+    let y = stood_ready c.args.ws.now c.args.at _ c.requires c.tree_count-t.ensures in
+    settle_moves c.args.ws.now _ c.args.at y c.requires.standing _ c.normalize-c.ensures

@@ -1,0 +1,5 @@
+use Rattle.walk.proofs.Laws.{has_read}
+use Rattle.walk.proofs.is_marked.Goals as goal
+
+pub returns : goal.returns
+returns c = has_read c.args.marks c.args.n _ c.requires.0 c.has_bit.ensures
