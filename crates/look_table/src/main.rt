@@ -1,5 +1,8 @@
 // The cursor table of document 01, run: tree 0 is B, tree 1 has one pair, tree 2 is empty.
+#![tactic(auto)]
+
 use forest::{Cursor, Moved};
+use std::io;
 
 // T = 3, N = 4: B is 10, 20, 30, 35 in node 1 and 40, 50, 60, 70 in node 2 under node 3; tree 1 is node 4.
 fn pool() -> [u32; 74] {
@@ -10,60 +13,61 @@ fn pool() -> [u32; 74] {
     ]
 }
 
-fn number(n: u32) {
-    io::print_decimal(1, n as u64);
-    io::write_all(1, b" ");
+fn number(rt: &impl Print, n: u32) -> io::Result<()> {
+    print!(rt; "{n} ")
 }
 
-fn flag(b: bool) {
+fn flag(rt: &impl Print, b: bool) -> io::Result<()> {
     if b {
-        io::write_all(1, b"1 ");
+        print!(rt; "1 ")?;
     } else {
-        io::write_all(1, b"0 ");
+        print!(rt; "0 ")?;
     }
+    Ok(())
 }
 
-fn words(a: [u32; 16]) {
+fn words(rt: &impl Print, a: [u32; 16]) -> io::Result<()> {
     let mut i: usize = 0;
     while i < 16 {
-        number(a[i]);
+        number(rt, a[i])?;
         i += 1;
     }
+    Ok(())
 }
 
-fn answer(r: forest::Reply) {
+fn answer(rt: &impl Print, r: forest::Reply) -> io::Result<()> {
     let a = forest::numbered(r);
-    number(a.number);
-    flag(a.found);
-    number(a.key);
-    number(a.value);
+    number(rt, a.number)?;
+    flag(rt, a.found)?;
+    number(rt, a.key)?;
+    number(rt, a.value)
 }
 
 // A line: number, found, key, value; then tree, size, the nodes, the places.
-fn show(m: Moved) {
+fn show(rt: &impl Print, m: Moved) -> io::Result<()> {
     let r = m.reply;
     let c = m.cursor;
-    answer(r);
-    io::write_all(1, b"| ");
-    number(c.tree);
-    number(c.size);
-    io::write_all(1, b"| ");
+    answer(rt, r)?;
+    print!(rt; "| ")?;
+    number(rt, c.tree)?;
+    number(rt, c.size)?;
+    print!(rt; "| ")?;
     let ns = c.nodes;
-    words(ns);
-    io::write_all(1, b"| ");
+    words(rt, ns)?;
+    print!(rt; "| ")?;
     let ps = c.places;
-    words(ps);
-    io::write_all(1, b"\n");
+    words(rt, ps)?;
+    println!(rt)
 }
 
-fn value(r: forest::Reply) {
-    answer(r);
-    io::write_all(1, b"\n");
+fn value(rt: &impl Print, r: forest::Reply) -> io::Result<()> {
+    answer(rt, r)?;
+    println!(rt)
 }
 
-fn head(name: &[u8]) {
-    io::write_all(1, name);
-    io::write_all(1, b"\n");
+fn head(rt: &impl Print, name: &[u8]) -> io::Result<()> {
+    rt.write_all(name)?;
+    rt.write_all(b"\n")
 }
 
 // A cursor of two levels.
@@ -97,77 +101,93 @@ fn unclean(entry: u32) -> Cursor {
 }
 
 // All moves that read the cursor.
-fn moves(ws: &[u32], c: Cursor) {
-    show(map::settle(ws, c));
-    show(map::next(ws, c));
-    show(map::prev(ws, c));
+fn moves(rt: &impl Print, ws: &[u32], c: Cursor) -> io::Result<()> {
+    show(rt, map::settle(ws, c))?;
+    show(rt, map::next(ws, c))?;
+    show(rt, map::prev(ws, c))
 }
 
-fn gets(ws: &[u32]) {
-    head(b"get 38, 40, 70 of B; 5 of tree 1; 5 of tree 2; 5 of tree 3");
-    value(map::get(ws, 0, 38));
-    value(map::get(ws, 0, 40));
-    value(map::get(ws, 0, 70));
-    value(map::get(ws, 1, 5));
-    value(map::get(ws, 2, 5));
-    value(map::get(ws, 3, 5));
+fn gets(rt: &impl Print, ws: &[u32]) -> io::Result<()> {
+    head(
+        rt,
+        b"get 38, 40, 70 of B; 5 of tree 1; 5 of tree 2; 5 of tree 3",
+    )?;
+    value(rt, map::get(ws, 0, 38))?;
+    value(rt, map::get(ws, 0, 40))?;
+    value(rt, map::get(ws, 0, 70))?;
+    value(rt, map::get(ws, 1, 5))?;
+    value(rt, map::get(ws, 2, 5))?;
+    value(rt, map::get(ws, 3, 5))
 }
 
-fn firsts(ws: &[u32]) {
-    head(b"first of B, of tree 1, of tree 2, of tree 3; from a cursor of size 99");
-    show(map::first(ws, at(0, 0, 0, 0, 0, 0)));
-    show(map::first(ws, at(1, 0, 0, 0, 0, 0)));
-    show(map::first(ws, at(2, 0, 0, 0, 0, 0)));
-    show(map::first(ws, at(3, 0, 0, 0, 0, 0)));
-    show(map::first(ws, at(0, 99, 7, 7, 7, 7)));
+fn firsts(rt: &impl Print, ws: &[u32]) -> io::Result<()> {
+    head(
+        rt,
+        b"first of B, of tree 1, of tree 2, of tree 3; from a cursor of size 99",
+    )?;
+    show(rt, map::first(ws, at(0, 0, 0, 0, 0, 0)))?;
+    show(rt, map::first(ws, at(1, 0, 0, 0, 0, 0)))?;
+    show(rt, map::first(ws, at(2, 0, 0, 0, 0, 0)))?;
+    show(rt, map::first(ws, at(3, 0, 0, 0, 0, 0)))?;
+    show(rt, map::first(ws, at(0, 99, 7, 7, 7, 7)))
 }
 
 // Seek, and each move from there.
-fn sought(ws: &[u32], key: u32) {
+fn sought(rt: &impl Print, ws: &[u32], key: u32) -> io::Result<()> {
     let m = map::seek(ws, at(0, 99, 7, 7, 7, 7), key);
-    show(m);
+    show(rt, m)?;
     let c = m.cursor;
-    moves(ws, c);
+    moves(rt, ws, c)
 }
 
-fn seeks(ws: &[u32]) {
-    head(b"seek 38, then settle, next, prev; the same with 5, 10, 35, 40, 70, 99");
-    sought(ws, 38);
-    sought(ws, 5);
-    sought(ws, 10);
-    sought(ws, 35);
-    sought(ws, 40);
-    sought(ws, 70);
-    sought(ws, 99);
-}
-
-fn ends(ws: &[u32]) {
-    head(b"size 0 in B, in tree 1, in tree 2; seek in tree 2, in tree 3");
-    moves(ws, at(0, 0, 0, 0, 0, 0));
-    moves(ws, at(1, 0, 0, 0, 0, 0));
-    moves(ws, at(2, 0, 0, 0, 0, 0));
-    show(map::seek(ws, at(2, 0, 0, 0, 0, 0), 5));
-    show(map::seek(ws, at(3, 5, 1, 1, 1, 1), 5));
-}
-
-fn garbage(ws: &[u32]) {
+fn seeks(rt: &impl Print, ws: &[u32]) -> io::Result<()> {
     head(
-        b"size 17; size 4,294,967,295; wrong child; unused level; other tree's root; ends at an inner node",
-    );
-    moves(ws, at(0, 17, 3, 0, 1, 0));
-    moves(ws, at(0, 4294967295, 3, 0, 1, 0));
-    moves(ws, at(0, 2, 3, 1, 1, 0));
-    moves(ws, unclean(1));
-    moves(ws, at(0, 1, 4, 0, 0, 0));
-    moves(ws, at(0, 1, 3, 0, 0, 0));
+        rt,
+        b"seek 38, then settle, next, prev; the same with 5, 10, 35, 40, 70, 99",
+    )?;
+    sought(rt, ws, 38)?;
+    sought(rt, ws, 5)?;
+    sought(rt, ws, 10)?;
+    sought(rt, ws, 35)?;
+    sought(rt, ws, 40)?;
+    sought(rt, ws, 70)?;
+    sought(rt, ws, 99)
 }
 
-fn more_garbage(ws: &[u32]) {
-    head(b"entry 5 of 4; size 0 with a level; a level in an empty tree; tree 3 with size 99");
-    moves(ws, at(0, 2, 3, 0, 1, 5));
-    moves(ws, at(0, 0, 3, 0, 0, 0));
-    moves(ws, at(2, 1, 3, 0, 0, 0));
-    moves(ws, at(3, 99, 3, 0, 1, 0));
+fn ends(rt: &impl Print, ws: &[u32]) -> io::Result<()> {
+    head(
+        rt,
+        b"size 0 in B, in tree 1, in tree 2; seek in tree 2, in tree 3",
+    )?;
+    moves(rt, ws, at(0, 0, 0, 0, 0, 0))?;
+    moves(rt, ws, at(1, 0, 0, 0, 0, 0))?;
+    moves(rt, ws, at(2, 0, 0, 0, 0, 0))?;
+    show(rt, map::seek(ws, at(2, 0, 0, 0, 0, 0), 5))?;
+    show(rt, map::seek(ws, at(3, 5, 1, 1, 1, 1), 5))
+}
+
+fn garbage(rt: &impl Print, ws: &[u32]) -> io::Result<()> {
+    head(
+        rt,
+        b"size 17; size 4,294,967,295; wrong child; unused level; other tree's root; ends at an inner node",
+    )?;
+    moves(rt, ws, at(0, 17, 3, 0, 1, 0))?;
+    moves(rt, ws, at(0, 4294967295, 3, 0, 1, 0))?;
+    moves(rt, ws, at(0, 2, 3, 1, 1, 0))?;
+    moves(rt, ws, unclean(1))?;
+    moves(rt, ws, at(0, 1, 4, 0, 0, 0))?;
+    moves(rt, ws, at(0, 1, 3, 0, 0, 0))
+}
+
+fn more_garbage(rt: &impl Print, ws: &[u32]) -> io::Result<()> {
+    head(
+        rt,
+        b"entry 5 of 4; size 0 with a level; a level in an empty tree; tree 3 with size 99",
+    )?;
+    moves(rt, ws, at(0, 2, 3, 0, 1, 5))?;
+    moves(rt, ws, at(0, 0, 3, 0, 0, 0))?;
+    moves(rt, ws, at(2, 1, 3, 0, 0, 0))?;
+    moves(rt, ws, at(3, 99, 3, 0, 1, 0))
 }
 
 // The same words with a free node that is none.
@@ -177,22 +197,22 @@ fn broken() -> [u32; 74] {
     ws
 }
 
-fn unsound(ws: &[u32]) {
-    head(b"words that are not sound, tree 3");
-    moves(ws, at(3, 99, 3, 0, 1, 0));
-    show(map::first(ws, at(0, 99, 3, 0, 1, 0)));
-    show(map::seek(ws, at(0, 99, 3, 0, 1, 0), 10));
-    value(map::get(ws, 3, 10));
+fn unsound(rt: &impl Print, ws: &[u32]) -> io::Result<()> {
+    head(rt, b"words that are not sound, tree 3")?;
+    moves(rt, ws, at(3, 99, 3, 0, 1, 0))?;
+    show(rt, map::first(ws, at(0, 99, 3, 0, 1, 0)))?;
+    show(rt, map::seek(ws, at(0, 99, 3, 0, 1, 0), 10))?;
+    value(rt, map::get(ws, 3, 10))
 }
 
-fn main() {
+fn main(rt: HostRuntime) -> io::Result<()> {
     let ws = pool();
-    gets(&ws);
-    firsts(&ws);
-    seeks(&ws);
-    ends(&ws);
-    garbage(&ws);
-    more_garbage(&ws);
+    gets(&rt, &ws)?;
+    firsts(&rt, &ws)?;
+    seeks(&rt, &ws)?;
+    ends(&rt, &ws)?;
+    garbage(&rt, &ws)?;
+    more_garbage(&rt, &ws)?;
     let bad = broken();
-    unsound(&bad);
+    unsound(&rt, &bad)
 }

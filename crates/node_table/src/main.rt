@@ -1,9 +1,11 @@
 // Runs each operation on one node at its edges and writes what it leaves, a line each: the operation, the node's size, the place, and the words.
+#![tactic(auto)]
+
 ghost use Rattle.std.specs.Prelude.{◌≡◌, ◌+◌, ◌≤◌, ◌<◌, get_or};
 ghost use Rattle.node.specs.Nodes.{Leaf, Inner};
 
-use libc::STDOUT_FILENO;
 use node::Removed;
+use std::io;
 
 // The keys of the nodes, those that come between them, and the values or children.
 const KEYS: [u32; 9] = [10, 20, 30, 40, 50, 60, 70, 80, 90];
@@ -20,28 +22,27 @@ fn size(x: usize) -> u64 {
     x as u64
 }
 
-fn number(x: u64) {
-    io::write_all(STDOUT_FILENO, b" ");
-    io::print_decimal(STDOUT_FILENO, x);
+fn number(rt: &impl Print, x: u64) -> io::Result<()> {
+    print!(rt; " {x}")
 }
 
-fn flag(b: bool) {
+fn flag(rt: &impl Print, b: bool) -> io::Result<()> {
     if b {
-        number(1);
-        return;
+        return number(rt, 1);
     }
-    number(0);
+    number(rt, 0)
 }
 
-fn end() {
-    io::write_all(STDOUT_FILENO, b"\n");
+fn end(rt: &impl Print) -> io::Result<()> {
+    println!(rt)
 }
 
-fn words(w: [u32; 16]) {
-    io::write_all(STDOUT_FILENO, b" :");
+fn words(rt: &impl Print, w: [u32; 16]) -> io::Result<()> {
+    print!(rt; " :")?;
     for i in 0..16 {
-        number(wide(w[i]));
+        number(rt, wide(w[i]))?;
     }
+    Ok(())
 }
 
 // A leaf of one pair.
@@ -117,19 +118,19 @@ fn inner_of(n: usize) -> [u32; 16]
 }
 
 // The start of a line: the operation, the size of the node, and the place or the size of the other node.
-fn title(name: &[u8], n: usize, at: usize) {
-    io::write_all(STDOUT_FILENO, name);
-    number(size(n));
-    number(size(at));
+fn title(rt: &impl Print, name: &[u8], n: usize, at: usize) -> io::Result<()> {
+    rt.write_all(name)?;
+    number(rt, size(n))?;
+    number(rt, size(at))
 }
 
-fn split(s: node::SplitOff) {
+fn split(rt: &impl Print, s: node::SplitOff) -> io::Result<()> {
     let left = s.left;
     let right = s.right;
-    words(left);
-    words(right);
-    number(wide(s.key));
-    end();
+    words(rt, left)?;
+    words(rt, right)?;
+    number(rt, wide(s.key))?;
+    end(rt)
 }
 
 fn status(r: Removed) -> u64 {
@@ -141,151 +142,159 @@ fn status(r: Removed) -> u64 {
     }
 }
 
-fn cut(c: node::Cut) {
+fn cut(rt: &impl Print, c: node::Cut) -> io::Result<()> {
     let left = c.words;
     let how = c.status;
-    words(left);
-    number(status(how));
-    end();
+    words(rt, left)?;
+    number(rt, status(how))?;
+    end(rt)
 }
 
-fn balanced(b: node::Balanced) {
+fn balanced(rt: &impl Print, b: node::Balanced) -> io::Result<()> {
     let left = b.left;
     let right = b.right;
-    words(left);
-    words(right);
-    number(wide(b.key));
-    flag(b.all);
-    end();
+    words(rt, left)?;
+    words(rt, right)?;
+    number(rt, wide(b.key))?;
+    flag(rt, b.all)?;
+    end(rt)
 }
 
-fn inner_insert(n: usize, index: usize)
+fn inner_insert(rt: &impl Print, n: usize, index: usize) -> io::Result<()>
     requires { 1 ≤ n }
 {
     if 8 <= n {
-        return;
+        return Ok(());
     }
     if n <= index {
-        return;
+        return Ok(());
     }
-    title(b"inner_insert", n, index);
-    words(node::inner_insert(inner_of(n), index, BETWEEN[index + 1], 99));
-    end();
+    title(rt, b"inner_insert", n, index)?;
+    words(
+        rt,
+        node::inner_insert(inner_of(n), index, BETWEEN[index + 1], 99),
+    )?;
+    end(rt)
 }
 
-fn leaf_split(n: usize, at: usize) {
+fn leaf_split(rt: &impl Print, n: usize, at: usize) -> io::Result<()> {
     if n != 7 {
-        return;
+        return Ok(());
     }
     if 7 < at {
-        return;
+        return Ok(());
     }
-    title(b"leaf_split", n, at);
-    split(node::leaf_split(leaf_of(n), at, BETWEEN[at], 99));
+    title(rt, b"leaf_split", n, at)?;
+    split(rt, node::leaf_split(leaf_of(n), at, BETWEEN[at], 99))
 }
 
-fn inner_split(n: usize, index: usize) {
+fn inner_split(rt: &impl Print, n: usize, index: usize) -> io::Result<()> {
     if n != 8 {
-        return;
+        return Ok(());
     }
     if 8 <= index {
-        return;
+        return Ok(());
     }
-    title(b"inner_split", n, index);
-    split(node::inner_split(inner_of(n), index, BETWEEN[index + 1], 99));
+    title(rt, b"inner_split", n, index)?;
+    split(
+        rt,
+        node::inner_split(inner_of(n), index, BETWEEN[index + 1], 99),
+    )
 }
 
-fn leaf_remove(n: usize, at: usize)
+fn leaf_remove(rt: &impl Print, n: usize, at: usize) -> io::Result<()>
     requires { 1 ≤ n }
 {
     if 7 < n {
-        return;
+        return Ok(());
     }
     if n <= at {
-        return;
+        return Ok(());
     }
-    title(b"leaf_remove", n, at);
-    cut(node::leaf_remove(leaf_of(n), at));
+    title(rt, b"leaf_remove", n, at)?;
+    cut(rt, node::leaf_remove(leaf_of(n), at))
 }
 
-fn inner_remove(n: usize, at: usize)
+fn inner_remove(rt: &impl Print, n: usize, at: usize) -> io::Result<()>
     requires { 1 ≤ n }
 {
     if 8 < n {
-        return;
+        return Ok(());
     }
     if n <= at {
-        return;
+        return Ok(());
     }
-    title(b"inner_remove", n, at);
-    cut(node::inner_remove(inner_of(n), at));
+    title(rt, b"inner_remove", n, at)?;
+    cut(rt, node::inner_remove(inner_of(n), at))
 }
 
-fn leaf_balance(n: usize, m: usize)
+fn leaf_balance(rt: &impl Print, n: usize, m: usize) -> io::Result<()>
     requires { 1 ≤ n }
 {
     if 7 < n {
-        return;
+        return Ok(());
     }
     if m < 1 {
-        return;
+        return Ok(());
     }
     if 7 < m {
-        return;
+        return Ok(());
     }
-    title(b"leaf_balance", n, m);
-    balanced(node::leaf_balance(leaf_of(n), leaf_of(m)));
+    title(rt, b"leaf_balance", n, m)?;
+    balanced(rt, node::leaf_balance(leaf_of(n), leaf_of(m)))
 }
 
-fn inner_balance(n: usize, m: usize)
+fn inner_balance(rt: &impl Print, n: usize, m: usize) -> io::Result<()>
     requires { 1 ≤ n }
 {
     if 8 < n {
-        return;
+        return Ok(());
     }
     if m < 1 {
-        return;
+        return Ok(());
     }
     if 8 < m {
-        return;
+        return Ok(());
     }
-    title(b"inner_balance", n, m);
-    balanced(node::inner_balance(inner_of(n), inner_of(m), 99));
+    title(rt, b"inner_balance", n, m)?;
+    balanced(rt, node::inner_balance(inner_of(n), inner_of(m), 99))
 }
 
 // All operations on a node of size n at place `at`.
-fn lines(n: usize, at: usize)
+fn lines(rt: &impl Print, n: usize, at: usize) -> io::Result<()>
     requires { 1 ≤ n }
 {
-    leaf_split(n, at);
-    leaf_remove(n, at);
-    leaf_balance(n, at);
-    inner_insert(n, at);
-    inner_split(n, at);
-    inner_remove(n, at);
-    inner_balance(n, at);
+    leaf_split(rt, n, at)?;
+    leaf_remove(rt, n, at)?;
+    leaf_balance(rt, n, at)?;
+    inner_insert(rt, n, at)?;
+    inner_split(rt, n, at)?;
+    inner_remove(rt, n, at)?;
+    inner_balance(rt, n, at)
 }
 
-fn places(n: usize)
+fn places(rt: &impl Print, n: usize) -> io::Result<()>
     requires { 1 ≤ n }
 {
     for at in 0..9 {
-        lines(n, at);
+        lines(rt, n, at)?;
     }
+    Ok(())
 }
 
-fn sizes() {
+fn sizes(rt: &impl Print) -> io::Result<()> {
     for n in 1..9 {
-        places(n);
+        places(rt, n)?;
     }
+    Ok(())
 }
 
-fn main() {
-    io::write_all(STDOUT_FILENO, b"leaf");
-    words(node::leaf(9, 100));
-    end();
-    io::write_all(STDOUT_FILENO, b"inner");
-    words(node::inner(1, 20, 2));
-    end();
-    sizes();
+fn main(rt: HostRuntime) -> io::Result<()> {
+    print!(rt; "leaf")?;
+    words(&rt, node::leaf(9, 100))?;
+    end(&rt)?;
+    print!(rt; "inner")?;
+    words(&rt, node::inner(1, 20, 2))?;
+    end(&rt)?;
+    sizes(&rt)
 }

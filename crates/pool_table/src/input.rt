@@ -1,52 +1,54 @@
 // Standard input, line by line: a word, numbers, and a text.
-use libc::{STDIN_FILENO, STDOUT_FILENO};
+use std::io;
+use std::io::Read as _;
 
 // A number, and whether another one follows.
-#[derive(Drop)]
+#[derive(Clone, Copy)]
 pub struct Read {
     pub value: u32,
     pub more: bool,
 }
 
 // The next byte, 0 where there is none left.
-fn byte() -> u8 {
+fn byte(rt: &impl Input) -> io::Result<u8> {
     let mut b = [0u8; 1];
-    io::read_full(STDIN_FILENO, &mut b);
-    b[0]
+    rt.reader().read(&mut b)?;
+    Ok(b[0])
 }
 
 // The next byte is passed over or copied: whether it is another one than `stop`.
-fn passed(stop: u8, copy: bool) -> bool {
-    let b = byte();
+fn passed(rt: &(impl Input + Print), stop: u8, copy: bool) -> io::Result<bool> {
+    let b = byte(rt)?;
     if copy {
-        io::write_all(STDOUT_FILENO, &[b]);
+        rt.write_all(&[b])?;
     }
-    b != stop
+    Ok(b != stop)
 }
 
 // All up to the byte `stop` is passed over or copied, at most 200 bytes.
-fn pass(stop: u8, copy: bool) {
+fn pass(rt: &(impl Input + Print), stop: u8, copy: bool) -> io::Result<()> {
     let mut left: u32 = 200;
-    while left > 0 && passed(stop, copy) {
+    while left > 0 && passed(rt, stop, copy)? {
         left -= 1;
     }
+    Ok(())
 }
 
 // The first letter of a word that a space ends, 0 at the end of the input.
-pub fn word() -> u8 {
-    let first = byte();
-    pass(b' ', false);
-    first
+pub fn word(rt: &(impl Input + Print)) -> io::Result<u8> {
+    let first = byte(rt)?;
+    pass(rt, b' ', false)?;
+    Ok(first)
 }
 
 // The rest of a line is passed over.
-pub fn skip() {
-    pass(b'\n', false);
+pub fn skip(rt: &(impl Input + Print)) -> io::Result<()> {
+    pass(rt, b'\n', false)
 }
 
 // The rest of a line is copied to the output.
-pub fn copy() {
-    pass(b'\n', true);
+pub fn copy(rt: &(impl Input + Print)) -> io::Result<()> {
+    pass(rt, b'\n', true)
 }
 
 // A number with one more digit.
@@ -55,22 +57,22 @@ fn longer(value: u32, digit: u8) -> u32 {
 }
 
 // A number, and the byte after it.
-pub fn number() -> Read {
+pub fn number(rt: &impl Input) -> io::Result<Read> {
     let mut value: u32 = 0;
     let mut left: u32 = 11;
     while left > 0 {
-        let b = byte();
+        let b = byte(rt)?;
         if b < b'0' || b > b'9' {
-            return Read {
+            return Ok(Read {
                 value: value,
                 more: b == b' ',
-            };
+            });
         }
         value = longer(value, b - b'0');
         left -= 1;
     }
-    Read {
+    Ok(Read {
         value: value,
         more: false,
-    }
+    })
 }

@@ -1,58 +1,62 @@
 // Puts run: the trials P1 to P4 of document 01, N = 0, the least and the greatest key, and fills until there is no room.
+#![tactic(auto)]
+
 ghost use Rattle.std.specs.Prelude.{◌<◌};
 
-fn number(n: u32) {
-    io::print_decimal(1, n as u64);
-    io::write_all(1, b" ");
+use std::io;
+
+fn number(rt: &impl Print, n: u32) -> io::Result<()> {
+    print!(rt; "{n} ")
 }
 
-fn head(name: &[u8]) {
-    io::write_all(1, name);
-    io::write_all(1, b"\n");
+fn head(rt: &impl Print, name: &[u8]) -> io::Result<()> {
+    rt.write_all(name)?;
+    rt.write_all(b"\n")
 }
 
 // A line: number, found as 0 or 1, value.
-fn answer(r: forest::Reply) {
+fn answer(rt: &impl Print, r: forest::Reply) -> io::Result<()> {
     let a = forest::numbered(r);
-    number(a.number);
+    number(rt, a.number)?;
     if a.found {
-        io::write_all(1, b"1 ");
+        print!(rt; "1 ")?;
     } else {
-        io::write_all(1, b"0 ");
+        print!(rt; "0 ")?;
     }
-    number(a.value);
-    io::write_all(1, b"\n");
+    number(rt, a.value)?;
+    println!(rt)
 }
 
 // All words, in a line.
-fn show(ws: &[u32]) {
+fn show(rt: &impl Print, ws: &[u32]) -> io::Result<()> {
     let mut i: usize = 0;
     while i < ws.len() {
-        number(ws[i]);
+        number(rt, ws[i])?;
         i += 1;
     }
-    io::write_all(1, b"\n");
+    println!(rt)
 }
 
-fn put(ws: &mut [u32], key: u32, value: u32) {
-    answer(map::put(ws, 0, key, value));
+fn put(rt: &impl Print, ws: &mut [u32], key: u32, value: u32) -> io::Result<()> {
+    answer(rt, map::put(ws, 0, key, value))
 }
 
 // A put, and the words then.
-fn shown(ws: &mut [u32], key: u32, value: u32) {
-    put(ws, key, value);
-    show(ws);
+fn shown(rt: &impl Print, ws: &mut [u32], key: u32, value: u32) -> io::Result<()> {
+    put(rt, ws, key, value)?;
+    show(rt, ws)
 }
 
 // Tree A: 10 to 70 in one leaf, under a head.
-fn tree_a(name: &[u8], ws: &mut [u32], nodes: u32) {
-    head(name);
-    answer(pool::format(ws, 1, nodes));
+fn tree_a(rt: &impl Print, name: &[u8], ws: &mut [u32], nodes: u32) -> io::Result<()> {
+    head(rt, name)?;
+    answer(rt, pool::format(ws, 1, nodes))?;
     let mut key: u32 = 10;
     while key < 80 {
-        put(ws, key, 10 * key);
+        put(rt, ws, key, 10 * key)?;
         key += 10;
     }
+    Ok(())
 }
 
 // A put is refused for want of nodes.
@@ -78,66 +82,73 @@ fn fill(ws: &mut [u32], from: u32, step: u32) -> u32
     i
 }
 
-fn filled(ws: &mut [u32], from: u32, step: u32)
+fn filled(rt: &impl Print, ws: &mut [u32], from: u32, step: u32) -> io::Result<()>
     requires { (from < 101) × (step < 101) }
 {
-    answer(pool::format(ws, 1, 12));
-    number(fill(ws, from, step));
-    io::write_all(1, b"\n");
-    show(ws);
+    answer(rt, pool::format(ws, 1, 12))?;
+    number(rt, fill(ws, from, step))?;
+    println!(rt)?;
+    show(rt, ws)
 }
 
-fn trials() {
+fn trials(rt: &impl Print) -> io::Result<()> {
     let mut b = [0u32; 55];
-    tree_a(b"P1, P4: A with 35 put, and again", &mut b, 3);
-    shown(&mut b, 35, 350);
-    shown(&mut b, 35, 350);
-    tree_a(b"P2: A with 45 put", &mut b, 3);
-    shown(&mut b, 45, 450);
+    tree_a(rt, b"P1, P4: A with 35 put, and again", &mut b, 3)?;
+    shown(rt, &mut b, 35, 350)?;
+    shown(rt, &mut b, 35, 350)?;
+    tree_a(rt, b"P2: A with 45 put", &mut b, 3)?;
+    shown(rt, &mut b, 45, 450)
 }
 
-fn no_room() {
+fn no_room(rt: &impl Print) -> io::Result<()> {
     let mut b = [0u32; 38];
     tree_a(
+        rt,
         b"P3: A in two nodes, 35 put; a present key replaced there",
         &mut b,
         2,
-    );
-    put(&mut b, 35, 350);
-    shown(&mut b, 70, 7);
+    )?;
+    put(rt, &mut b, 35, 350)?;
+    shown(rt, &mut b, 70, 7)
 }
 
-fn no_nodes() {
-    head(b"no node at all");
+fn no_nodes(rt: &impl Print) -> io::Result<()> {
+    head(rt, b"no node at all")?;
     let mut b = [0u32; 4];
-    answer(pool::format(&mut b, 1, 0));
-    shown(&mut b, 1, 1);
+    answer(rt, pool::format(&mut b, 1, 0))?;
+    shown(rt, &mut b, 1, 1)
 }
 
-fn ends() {
-    head(b"the least key and the greatest; tree 1 of one tree; words that are not sound");
+fn ends(rt: &impl Print) -> io::Result<()> {
+    head(
+        rt,
+        b"the least key and the greatest; tree 1 of one tree; words that are not sound",
+    )?;
     let mut b = [0u32; 38];
-    answer(pool::format(&mut b, 1, 2));
-    put(&mut b, 4294967295, 1);
-    put(&mut b, 0, 2);
-    answer(map::put(&mut b, 1, 5, 5));
-    show(&b);
+    answer(rt, pool::format(&mut b, 1, 2))?;
+    put(rt, &mut b, 4294967295, 1)?;
+    put(rt, &mut b, 0, 2)?;
+    answer(rt, map::put(&mut b, 1, 5, 5))?;
+    show(rt, &b)?;
     b[0] = 2;
-    shown(&mut b, 5, 5);
+    shown(rt, &mut b, 5, 5)
 }
 
-fn fills() {
+fn fills(rt: &impl Print) -> io::Result<()> {
     let mut b = [0u32; 208];
-    head(b"ascending, descending and mixed, until there is no room");
-    filled(&mut b, 0, 1);
-    filled(&mut b, 100, 100);
-    filled(&mut b, 0, 37);
+    head(
+        rt,
+        b"ascending, descending and mixed, until there is no room",
+    )?;
+    filled(rt, &mut b, 0, 1)?;
+    filled(rt, &mut b, 100, 100)?;
+    filled(rt, &mut b, 0, 37)
 }
 
-fn main() {
-    trials();
-    no_room();
-    no_nodes();
-    ends();
-    fills();
+fn main(rt: HostRuntime) -> io::Result<()> {
+    trials(&rt)?;
+    no_room(&rt)?;
+    no_nodes(&rt)?;
+    ends(&rt)?;
+    fills(&rt)
 }

@@ -23,7 +23,7 @@ const PREV: u32 = 15;
 const REMOVE_AT: u32 = 16;
 
 // How a recorded call went: as recorded, or with another answer, cursor or words, or it is no call that we know.
-#[derive(Drop)]
+#[derive(Clone, Copy)]
 pub enum Verdict {
     Agrees,
     Answer,

@@ -1,10 +1,10 @@
 // Standard input, word by word.
 ghost use Rattle.std.specs.Prelude.{◌<◌};
 
-use libc::STDIN_FILENO;
+use std::io::Read;
 
 // A word of the input, or that there is none left.
-#[derive(Drop)]
+#[derive(Clone, Copy)]
 pub enum Word {
     Is(u32),
     End,
@@ -23,19 +23,19 @@ fn joined(b: [u8; 4]) -> u32 {
 }
 
 // The next word of the input.
-pub fn read_word() -> Word {
+pub fn read_word(rt: &impl Input) -> Word {
     let mut b = [0u8; 4];
-    if io::read_full(STDIN_FILENO, &mut b) < 4 {
+    if rt.reader().read_exact(&mut b).is_err() {
         return Word::End;
     }
     Word::Is(joined(b))
 }
 
 // Words of the input, as many as `out` has: whether they were there.
-pub fn read_words(out: &mut [u32]) -> bool {
+pub fn read_words(rt: &impl Input, out: &mut [u32]) -> bool {
     let mut i: usize = 0;
     while i < out.len() {
-        let Word::Is(w) = read_word() else {
+        let Word::Is(w) = read_word(rt) else {
             return false;
         };
         out[i] = w;

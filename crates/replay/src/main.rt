@@ -1,22 +1,33 @@
 // The replay program of document 01: standard input is read stage by stage, and what is said goes to standard output.
-ghost use Rattle.std.specs.Prelude.{◌≡◌, ◌≤◌, length};
+#![tactic(auto)]
+
+ghost use Rattle.std.specs.Prelude.{◌≡◌, ◌≤◌, IsTrue, length, take};
+ghost use Rattle.std.specs.Io.KnownBytes.{Consumes, Appends};
 ghost use Rattle.requests.specs.Text.{lines};
 ghost use Rattle.requests.specs.Turns.{room, wants_of, spoken};
-ghost use Rattle.requests.specs.Program.{TakesTurn, Replays};
+ghost use Rattle.requests.specs.Program.{bytes_of, text_of, TakesTurn, Replays};
+ghost use Rattle.replay.specs.Streams.{Streams, Answers};
 
 use forest::{MAX_NODES, MAX_TREES};
-use libc::{STDIN_FILENO, STDOUT_FILENO};
 use requests::{Got, Piece, Said, Stage, Taken, Told};
+use std::io;
 
 // The words of the largest pool.
 const ROOM: usize = MAX_TREES as usize + 17 * MAX_NODES as usize + 3;
 
-// Reads until the bytes are full or the input ends.
-fn fill(bytes: &mut [u8]) -> Got
+// Reads until the bytes are full or the input ends. A read that fails ends it too.
+fn fill<R: io::Read>(input: &mut R, bytes: &mut [u8]) -> Got
     ensures asked_value { result.asked ≡ length bytes.old }
     ensures count_le_asked { result.count ≤ result.asked }
+    ensures bytes { Consumes (R.remaining input.old) (R.remaining input.new) (take result.count bytes.new) }
 {
-    let count = io::read_full(STDIN_FILENO, bytes);
+    let mut count = 0;
+    while count < bytes.len() {
+        match input.read(&mut bytes[count..]) {
+            Ok(0) | Err(_) => break,
+            Ok(n) => count += n,
+        }
+    }
     Got {
         asked: bytes.len(),
         count: count,
@@ -24,14 +35,15 @@ fn fill(bytes: &mut [u8]) -> Got
 }
 
 // What the stage wants is read, or all where there is less.
-fn read(stage: Stage) -> Piece
+fn read<R: io::Read>(input: &mut R, stage: Stage) -> Piece
     ensures asked_value { result.got.asked ≡ wants_of stage }
     ensures count_le_asked { result.got.count ≤ result.got.asked }
     ensures count_in_bounds { result.got.count ≤ length result.bytes }
+    ensures bytes { Consumes (R.remaining input.old) (R.remaining input.new) (bytes_of result) }
 {
     let mut bytes = [0u8; 16];
     let wanted = requests::wants(stage);
-    let got = fill(&mut bytes[..wanted]);
+    let got = fill(input, &mut bytes[..wanted]);
     Piece {
         bytes: bytes,
         got: got,
@@ -39,11 +51,12 @@ fn read(stage: Stage) -> Piece
 }
 
 // Writes the text of what is said.
-fn write(said: Said, text: &[u8]) -> Told
+fn write<W: io::Write>(output: &mut W, said: Said, text: &[u8]) -> Told
     requires { text.now ≡ lines (spoken said) }
-    ensures { result.said ≡ said }
+    ensures said { result.said ≡ said }
+    ensures written { IsTrue result.written → Appends (W.contents output.old) (W.contents output.new) (lines (spoken said)) }
 {
-    let written = io::write_all(STDOUT_FILENO, text);
+    let written = output.write_all(text).is_ok();
     Told {
         said: said,
         written: written,
@@ -51,23 +64,31 @@ fn write(said: Said, text: &[u8]) -> Told
 }
 
 // What is said is made text and written.
-fn say(said: Said) -> Told
-    ensures { result.said ≡ said }
+fn say<W: io::Write>(output: &mut W, said: Said) -> Told
+    ensures said { result.said ≡ said }
+    ensures written { IsTrue result.written → Appends (W.contents output.old) (W.contents output.new) (lines (spoken said)) }
 {
     let mut text = [0u8; 24];
     let start = requests::write_said(&mut text, said);
-    write(said, &text[start..])
+    write(output, said, &text[start..])
 }
 
 // A turn: what the stage wants is read, judged and answered.
-fn turn(pool: &mut [u32], stage: Stage) -> Taken
+fn turn<R: io::Read, W: io::Write>(
+    input: &mut R,
+    output: &mut W,
+    pool: &mut [u32],
+    stage: Stage,
+) -> Taken
     requires { room ≤ length pool.old }
-    ensures { TakesTurn stage pool.old pool.new result }
+    ensures turn { TakesTurn stage pool.old pool.new result }
+    ensures bytes { Consumes (R.remaining input.old) (R.remaining input.new) (bytes_of result.read) }
+    ensures written { IsTrue result.told.written → Appends (W.contents output.old) (W.contents output.new) (text_of result) }
 {
-    let piece = read(stage);
+    let piece = read(input, stage);
     let turn = requests::judge(pool, stage, piece);
     let said = turn.said;
-    let told = say(said);
+    let told = say(output, said);
     Taken {
         read: piece,
         turn: turn,
@@ -76,20 +97,22 @@ fn turn(pool: &mut [u32], stage: Stage) -> Taken
 }
 
 // The turns from the first word on, until nothing more is read: the last.
-fn run(pool: &mut [u32]) -> Taken
+fn run<R: io::Read, W: io::Write>(input: &mut R, output: &mut W, pool: &mut [u32]) -> Taken
     requires { room ≤ length pool.old }
-    ensures { Replays pool.old pool.new result }
+    ensures turns { Replays pool.old pool.new result }
+    ensures streams { Streams (R.remaining input.old) (R.remaining input.new) (W.contents output.old) (W.contents output.new) pool.old pool.new result }
+    ensures answers { IsTrue result.told.written → Answers (R.remaining input.old) (R.remaining input.new) (W.contents output.old) (W.contents output.new) }
 {
-    let mut taken = turn(pool, Stage::Kind);
+    let mut taken = turn(input, output, pool, Stage::Kind);
     let mut stage = requests::next(taken);
     while requests::wants(stage) > 0 {
-        taken = turn(pool, stage);
+        taken = turn(input, output, pool, stage);
         stage = requests::next(taken);
     }
     taken
 }
 
-fn main() {
+fn main(rt: HostRuntime) {
     let mut pool = [0u32; ROOM];
-    run(&mut pool);
+    run(&mut rt.stdin(), &mut rt.stdout(), &mut pool);
 }

@@ -1,0 +1,4 @@
+use Rattle.pool_table.proofs.input.number.Given as goal
+
+abbrev pub decreases-loop-left : goal.decreases-loop-left
+decreases-loop-left g l = l.left
