@@ -1,5 +1,5 @@
 /* Build and run, from the repository's root (the Rattle kit's rt makes the library):
-   rt staticlib recorder && cc -Iinclude examples/notes.c target/staticlib/librecorder.a -o target/notes && target/notes */
+   rust/library && cc -Iinclude examples/notes.c target/staticlib/librecorder.a -o target/notes && target/notes */
 #include "recorder.h"
 #include <inttypes.h>
 #include <stdio.h>

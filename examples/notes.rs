@@ -1,5 +1,5 @@
 // Build and run, from the repository's root (the Rattle kit's rt makes the library):
-// rt staticlib recorder && cargo run -q --offline --manifest-path rust/recorder/Cargo.toml --target-dir target/recorder --example notes
+// rust/library && cargo run -q --offline --manifest-path rust/recorder/Cargo.toml --target-dir target/recorder --example notes
 use recorder::{words_for, Found, Pool, Refusal};
 
 fn main() -> Result<(), Refusal> {

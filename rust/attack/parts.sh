@@ -11,8 +11,9 @@ stop() {
 command -v rustc >/dev/null || stop "rustc is not there: install a Rust toolchain (1.88 or later)"
 command -v cc >/dev/null || stop "cc is not there: a C compiler links what is compiled"
 module=$("$here/module")
-clang=$(dirname "$module")/kit/on/$(uname -m)/toolchain/bin/clang
-kit_words=(--no-default-config --target=x86_64-unknown-linux-gnu -march=x86-64 -fPIC)
+rt=$(command -v rt) || stop "the kit's own clang is needed: put the Rattle kit's command rt on the PATH"
+clang=$(dirname "$(dirname "$(readlink -f "$rt")")")/toolchain/bin/clang
+kit_words=(--no-default-config -no-canonical-prefixes --target=x86_64-unknown-linux-gnu -march=x86-64 -fPIC)
 
 # The plain driver as ./attack, which loads lib/librecorder.so when it starts.
 build_driver() {

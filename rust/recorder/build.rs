@@ -20,7 +20,7 @@ fn main() {
     println!("cargo:rerun-if-changed={}", archive.display());
     if !archive.is_file() {
         eprintln!("recorder: the proved library is not there: {}", archive.display());
-        eprintln!("Make it with `rt staticlib recorder` in the repository's root (this needs the Rattle kit),");
+        eprintln!("Make it with `rust/library` in the repository's root (this needs the Rattle kit),");
         eprintln!("or name the folder that has librecorder.a in RECORDER_LIB_DIR (a whole path).");
         exit(1);
     }
