@@ -1,8 +1,8 @@
 // The replay program of document 01: standard input is read stage by stage, and what is said goes to standard output.
 #![tactic(auto)]
 
-ghost use Rattle.std.specs.Prelude.{◌≡◌, ◌≤◌, IsTrue, length, take};
-ghost use Rattle.std.specs.Io.KnownBytes.{Consumes, Appends};
+ghost use Rattle.std.specs.Prelude.{◌≡◌, ◌≤◌, ◌<◌, IsTrue, IsFalse, length, take};
+ghost use Rattle.std.specs.Io.KnownBytes.{Consumes, Appends, IsAtEnd};
 ghost use Rattle.requests.specs.Text.{lines};
 ghost use Rattle.requests.specs.Turns.{room, wants_of, spoken};
 ghost use Rattle.requests.specs.Program.{bytes_of, text_of, TakesTurn, Replays};
@@ -15,22 +15,38 @@ use std::io;
 // The words of the largest pool.
 const ROOM: usize = MAX_TREES as usize + 17 * MAX_NODES as usize + 3;
 
+// What was read, and whether that was not all because a read failed.
+#[derive(Clone, Copy)]
+struct Filled {
+    got: Got,
+    failed: bool,
+}
+
 // Reads until the bytes are full or the input ends. A read that fails ends it too.
-fn fill<R: io::Read>(input: &mut R, bytes: &mut [u8]) -> Got
-    ensures asked_value { result.asked ≡ length bytes.old }
-    ensures count_le_asked { result.count ≤ result.asked }
-    ensures bytes { Consumes (R.remaining input.old) (R.remaining input.new) (take result.count bytes.new) }
+fn fill<R: io::Read>(input: &mut R, bytes: &mut [u8]) -> Filled
+    ensures asked_value { result.got.asked ≡ length bytes.old }
+    ensures count_le_asked { result.got.count ≤ result.got.asked }
+    ensures bytes { Consumes (R.remaining input.old) (R.remaining input.new) (take result.got.count bytes.new) }
+    ensures ended { IsFalse result.failed → result.got.count < result.got.asked → IsAtEnd (R.remaining input.new) }
 {
     let mut count = 0;
+    let mut failed = false;
     while count < bytes.len() {
         match input.read(&mut bytes[count..]) {
-            Ok(0) | Err(_) => break,
+            Ok(0) => break,
             Ok(n) => count += n,
+            Err(_) => {
+                failed = true;
+                break;
+            }
         }
     }
-    Got {
-        asked: bytes.len(),
-        count: count,
+    Filled {
+        got: Got {
+            asked: bytes.len(),
+            count: count,
+        },
+        failed: failed,
     }
 }
 
@@ -43,10 +59,10 @@ fn read<R: io::Read>(input: &mut R, stage: Stage) -> Piece
 {
     let mut bytes = [0u8; 16];
     let wanted = requests::wants(stage);
-    let got = fill(input, &mut bytes[..wanted]);
+    let filled = fill(input, &mut bytes[..wanted]);
     Piece {
         bytes: bytes,
-        got: got,
+        got: filled.got,
     }
 }
 
