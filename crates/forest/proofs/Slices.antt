@@ -1,17 +1,17 @@
 -- PROOFS. The words of a node in those of a pool; what the loops of slice_insert and slice_shift make, turn by turn; what a search passes
 use mathlib.Core.Path.{◌≡◌, refl, sym, ap, ◌∙◌}
 use mathlib.Core.List.{List, [], ◌∷◌, ◌++◌, append-nil}
-use mathlib.Core.Bool.{Bool, true, false}
+use mathlib.Core.Bool.{false}
 use Prim.Native.Nat.{ℕ, zero, suc, ◌+◌, ◌-◌, ◌≤◌, ◌<◌}
 use native.Mathlib.Numerals.{add-one}
 use native.Mathlib.Omega.{arith}
 use lib.ListN.{length, take, drop, set, get_or, length-drop, take-append-drop, get_or-append}
 use lib.Seq.{drop-drop, take-suc, drop-cons, drop-length, set_at, length-take-le, get_or-take, get_or-drop, append_snoc, take_all, get_or-append-add}
-use lib.Dec.{ltb, eqb}
+use lib.Dec.{ltb}
 use borrow.Author.Tests.{lt-ltb, le-ltb, eq-eqb, ne_eqb}
+use Rattle.std.specs.Prelude.{cond, Result, Ok, Err}
 use Rattle.forest.specs.Lists.{insert_at}
 use Rattle.forest.specs.Slices.{block_at, inserted, shifted, KeysAbove, KeysRise, key_place, has_key, searched}
-use Rattle.forest.specs.declared.Found.TheVariants.{Here, Absent}
 use Rattle.forest.proofs.ListLaws.{is, isnt, test, tests}
 
 -- a word of a node that starts at place b
@@ -97,10 +97,20 @@ none_above : (k f : ℕ) (fs : List ℕ) → k ≤ f → KeysAbove f fs → has_
 none_above k f [] h a = refl
 none_above k f (g ∷ fs) h a = simp (ne_eqb k g (omega arith)) (none_above k f fs h a.1)
 
--- the place of k among the keys fs, and whether it is there, the keys before place i not asked
-pub record Asked (k : ℕ) (fs : List ℕ) (i place : ℕ) (here : Bool) : Type 0 where
-  pub at : place ≡ i + key_place k (drop i fs)
-  pub hit : here ≡ has_key k (drop i fs)
+-- what a search for k finds among the keys fs, the first of which stands at place i
+abbrev pub met : ℕ → ℕ → List ℕ → Result ℕ ℕ
+met i k fs = cond (has_key k fs) (Ok (i + key_place k fs)) (Err (i + key_place k fs))
+
+met_here : (i k f : ℕ) (fs : List ℕ) → f ≡ k → Ok i ≡ met i k (f ∷ fs)
+met_here i k f fs e = simp (eq-eqb k f (sym e), le-ltb f k (omega arith)) (ap Ok (omega arith))
+
+met_above : (i k f : ℕ) (fs : List ℕ) → k < f → KeysAbove f fs → Err i ≡ met i k (f ∷ fs)
+met_above i k f fs g a = simp (ne_eqb k f (omega arith), none_above k f fs (omega arith) a, le-ltb f k (omega arith)) (ap Err (omega arith))
+
+met_below : (i k f : ℕ) (fs : List ℕ) → f < k → met (suc i) k fs ≡ met i k (f ∷ fs)
+met_below i k f fs g =
+    let e : suc i + key_place k fs ≡ i + suc (key_place k fs) = omega arith in
+    simp (ne_eqb k f (omega arith), lt-ltb f k g) (rw e refl)
 
 rise_drop : (fs : List ℕ) (i : ℕ) → KeysRise fs → KeysRise (drop i fs)
 rise_drop fs zero r = r
@@ -108,10 +118,9 @@ rise_drop [] (suc i) r = tt
 rise_drop (f ∷ fs) (suc i) r = rise_drop fs i r.1
 
 -- at the head of the loop: of the first n of l those from place i on have been asked
-pub record Searching (k : ℕ) (l : List ℕ) (n i place : ℕ) (here : Bool) : Type 0 where
-  pub few : i ≤ length l
-  pub past : n ≤ i → (place ≡ n) × (here ≡ false)
-  pub asked : i ≤ n → Asked k (take n l) i place here
+pub record Searching (k : ℕ) (l : List ℕ) (n i : ℕ) (found : Result ℕ ℕ) : Type 0 where
+  pub past : n ≤ i → found ≡ Err n
+  pub asked : i ≤ n → found ≡ met i k (drop i (take n l))
 
 module _ (k : ℕ) (l : List ℕ) (n : ℕ) (h : n ≤ length l) where
   key_there : (i : ℕ) → i < n → drop i (take n l) ≡ get_or l i 0 ∷ drop (suc i) (take n l)
@@ -119,66 +128,53 @@ module _ (k : ℕ) (l : List ℕ) (n : ℕ) (h : n ≤ length l) where
       let z : length (take n l) ≡ n = length-take-le n l h in
       drop-cons (take n l) i 0 (omega arith) ∙ ap (λ (x : ℕ). x ∷ drop (suc i) (take n l)) (get_or-take n l i 0 b)
 
-  asked_none : (i place : ℕ) (here : Bool) → i ≡ n → place ≡ n → here ≡ false → Asked k (take n l) i place here
-  asked_none i place here e p f =
+  asked_none : (i : ℕ) → i ≡ n → Err n ≡ met i k (drop i (take n l))
+  asked_none i e =
       let d : drop i (take n l) ≡ [] = ap (λ (i : ℕ). drop i (take n l)) (e ∙ sym (length-take-le n l h)) ∙ drop-length (take n l) in
-      record { at = rw d (omega arith); hit = rw d f }
+      rw (d, e) (ap Err (omega arith))
 
-  pub search_begins : Searching k l n (length l) n false
-  search_begins = record { few = omega arith; past = λ b. (refl, refl); asked = λ b. asked_none (length l) n false (omega arith) refl refl }
+  pub search_begins : (i : ℕ) → n ≤ i → Searching k l n i (Err n)
+  search_begins i b = record { past = λ c. refl; asked = λ c. asked_none i (omega arith) }
 
-  -- each turn of the loop, which steps from i to i - 1
-  module _ (i place : ℕ) (here : Bool) (s : Searching k l n i place here) (z : 0 < i) where
+  -- each turn of the loop, which steps from i to j
+  module _ (i j : ℕ) (z : suc j ≡ i) (found : Result ℕ ℕ) (s : Searching k l n i found) where
     -- the place is not one of the first n
-    pub search_skips : n ≤ i - 1 → Searching k l n (i - 1) place here
-    search_skips b =
-        let q = s.past (omega arith) in
-        record { few = omega (arith, s.few); past = λ c. q; asked = λ c. asked_none (i - 1) place here (omega arith) q.0 q.1 }
+    pub search_skips : n ≤ j → Searching k l n j found
+    search_skips b = rw (s.past (omega arith)) (search_begins j b)
 
-    -- a key that is not below k
-    pub search_stops : i - 1 < n → KeysRise (take n l) → k ≤ get_or l (i - 1) 0 → Searching k l n (i - 1) (i - 1) (eqb (get_or l (i - 1) 0) k)
+    -- the key itself
+    pub search_hits : j < n → get_or l j 0 ≡ k → Searching k l n j (Ok j)
+    search_hits b e = record {
+      past = λ c. absurd (omega arith);
+      asked = λ c. rw (key_there j b) (met_here j k _ _ e);
+    }
+
+    -- a key above it
+    pub search_stops : j < n → KeysRise (take n l) → k < get_or l j 0 → Searching k l n j (Err j)
     search_stops b r g =
-        let u : KeysRise (get_or l (i - 1) 0 ∷ drop (suc (i - 1)) (take n l)) = rw (key_there (i - 1) b) at (rise_drop (take n l) (i - 1) r) in
-        let x : eqb (get_or l (i - 1) 0) k ≡ has_key k (drop (i - 1) (take n l)) =
-        elim (test (eqb (get_or l (i - 1) 0) k)) [
-          | is e ↦ simp (key_there (i - 1) b, e, eq-eqb k (get_or l (i - 1) 0) (omega tests))
-          | isnt e ↦ simp (key_there (i - 1) b, e, ne_eqb k (get_or l (i - 1) 0) (omega tests), none_above k (get_or l (i - 1) 0) (drop (suc (i - 1)) (take n l)) g u.0)
-        ] in
+        let u : KeysRise (get_or l j 0 ∷ drop (suc j) (take n l)) = rw (key_there j b) at (rise_drop (take n l) j r) in
         record {
-          few = omega (arith, s.few);
           past = λ c. absurd (omega arith);
-          asked = λ c. record { at = simp (key_there (i - 1) b, le-ltb (get_or l (i - 1) 0) k g) (omega arith); hit = x };
+          asked = λ c. rw (key_there j b) (met_above j k _ _ g u.0);
         }
 
-    -- a key below k
-    pub search_passes : get_or l (i - 1) 0 < k → Searching k l n (i - 1) place here
-    search_passes g = elim (test (ltb (i - 1) n)) [
+    -- a key below it
+    pub search_passes : get_or l j 0 < k → Searching k l n j found
+    search_passes g = elim (test (ltb j n)) [
       | is e ↦
-          let b : i - 1 < n = omega tests in
-          let y : suc (i - 1) ≡ i = omega arith in
-          let a : Asked k (take n l) (suc (i - 1)) place here = rw y (s.asked (omega arith)) in
+          let b : j < n = omega tests in
           record {
-            few = omega (arith, s.few);
             past = λ c. absurd (omega arith);
-            asked = λ c. record {
-              at = simp (key_there (i - 1) b, lt-ltb (get_or l (i - 1) 0) k g) (omega (arith, a.at));
-              hit = simp (key_there (i - 1) b, ne_eqb k (get_or l (i - 1) 0) (omega arith)) a.hit;
-            };
+            asked = λ c.
+                s.asked (omega arith) ∙ ap (λ (m : ℕ). met m k (drop m (take n l))) (sym z)
+                ∙ rw (key_there j b) (met_below j k (get_or l j 0) (drop (suc j) (take n l)) g);
           }
       | isnt e ↦ search_skips (omega tests)
     ]
 
   -- at its end
-  module _ (i place : ℕ) (here : Bool) (s : Searching k l n i place here) (z : i ≡ 0) where
-    told : (place ≡ key_place k (take n l)) × (here ≡ has_key k (take n l))
-    told =
-        let a : Asked k (take n l) 0 place here = rw z at (s.asked (omega arith)) in
-        (omega (arith, a.at), a.hit)
-
-    pub search_here : here ≡ true → Here place ≡ searched k (take n l)
-    unfolding searched
-    search_here e = let t : has_key k (take n l) ≡ true = sym told.1 ∙ e in rw (t, told.0)
-
-    pub search_absent : here ≡ false → Absent place ≡ searched k (take n l)
-    unfolding searched
-    search_absent e = let t : has_key k (take n l) ≡ false = sym told.1 ∙ e in rw (t, told.0)
+  pub search_ends : (i : ℕ) (found : Result ℕ ℕ) → i ≡ 0 → Searching k l n i found → found ≡ searched k (take n l)
+  unfolding searched
+  search_ends i found z s =
+      let e : 0 + key_place k (take n l) ≡ key_place k (take n l) = omega arith in
+      s.asked (omega arith) ∙ rw (z, e) refl

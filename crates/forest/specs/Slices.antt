@@ -1,10 +1,8 @@
 -- DEFINITIONS. What the functions on slices leave and find; the words of a node in those of a pool
-use Rattle.std.specs.Prelude.{List, ◌++◌, cond, ℕ, ◌-◌, length, take, drop}
+use Rattle.std.specs.Prelude.{List, ◌++◌, cond, ℕ, ◌-◌, length, take, drop, Result, Ok, Err}
 use Rattle.forest.specs.Sizes.{node_size, base}
 use Rattle.forest.specs.Lists.{insert_at}
 pub use Rattle.forest.specs.Pairs.{KeysAbove, KeysRise, key_place, has_key}
-use Rattle.forest.specs.declared.Found.{Found}
-use Rattle.forest.specs.declared.Found.TheVariants.{Here, Absent}
 
 -- the words of a node that starts at place b
 unfoldable pub block_at : List ℕ → ℕ → List ℕ
@@ -22,6 +20,6 @@ inserted l i x = take (length l) (insert_at i x l)
 unfoldable pub shifted : List ℕ → ℕ → List ℕ
 shifted l n = drop n l ++ drop (length l - n) l
 
--- what a search for k finds: its place, or the place where it would stand
-unfoldable pub searched : ℕ → List ℕ → Found
-searched k fs = cond (has_key k fs) (Here (key_place k fs)) (Absent (key_place k fs))
+-- what a search for k finds: Ok of its place, or Err of the place where it would stand
+unfoldable pub searched : ℕ → List ℕ → Result ℕ ℕ
+searched k fs = cond (has_key k fs) (Ok (key_place k fs)) (Err (key_place k fs))

@@ -110,36 +110,21 @@ pub fn numbered(reply: Reply) -> Answer
     }
 }
 
-// What a search finds: the key's place, or the place where it would stand.
-#[derive(Clone, Copy)]
-pub enum Found {
-    Here(usize),
-    Absent(usize),
-}
-
 // Search for `k` among the first `n` of the seven keys of a node, in order; all seven are read, and no jump goes by a key.
-pub fn search(k: u32, s: &[u32], n: usize) -> Found
+pub fn search(k: u32, s: &[u32], n: usize) -> Result<usize, usize>
     requires s_len { (length s.now ≡ key_words) × (n ≤ key_words) }
     requires keys_rise { KeysRise (take n s.now) }
     ensures { result ≡ searched k (take n s.now) }
 {
-    let mut place = n;
-    let mut here = false;
-    let mut i = LEAF_SIZE;
-    while 0 < i {
-        i -= 1;
-        let x = s[i];
-        if k <= x {
+    let mut found = Err(n);
+    for i in (0..LEAF_SIZE).rev() {
+        if k <= s[i] {
             if i < n {
-                place = i;
-                here = x == k;
+                found = if s[i] == k { Ok(i) } else { Err(i) };
             }
         }
     }
-    if here {
-        return Found::Here(place);
-    }
-    Found::Absent(place)
+    found
 }
 
 // Insert `x` into `s` at position `i`, pushing out the last element.
@@ -147,10 +132,8 @@ pub fn slice_insert(s: &mut [u32], i: usize, x: u32)
     requires { i < length s.old }
     ensures { s.new ≡ inserted s.old i x }
 {
-    let mut j = s.len() - 1;
-    while i < j {
+    for j in (i + 1..s.len()).rev() {
         s[j] = s[j - 1];
-        j -= 1;
     }
     s[i] = x;
 }
@@ -160,10 +143,7 @@ pub fn slice_shift(s: &mut [u32], n: usize)
     requires { n ≤ length s.old }
     ensures { s.new ≡ shifted s.old n }
 {
-    let m = s.len() - n;
-    let mut j = 0;
-    while j < m {
+    for j in 0..s.len() - n {
         s[j] = s[j + n];
-        j += 1;
     }
 }

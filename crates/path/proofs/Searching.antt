@@ -6,11 +6,11 @@ use Prim.Native.Nat.{ℕ, zero, suc, ◌+◌, ◌≤◌}
 use native.Mathlib.Omega.{arith}
 use lib.ListN.{length}
 use borrow.Author.Tests.{lt-ltb, le-ltb, le-leb, lt-leb, eq-eqb, ne_eqb}
+use Rattle.std.specs.Prelude.{Ok, Err}
 use Rattle.forest.specs.Lists.{upto}
 use Rattle.forest.specs.Pairs.{Item, Rising}
 use Rattle.forest.specs.Rows.{Row, joined, items_at}
 use Rattle.forest.specs.Slices.{KeysAbove, KeysRise, key_place, has_key, searched}
-use Rattle.forest.specs.declared.Found.TheVariants.{Here, Absent}
 use Rattle.forest.proofs.ListLaws.{tri, less, same, more, is, isnt, test, upto-length}
 use Rattle.forest.proofs.PairLaws.{rising_left, rising_right}
 use Rattle.forest.proofs.Descent.{stored}
@@ -43,23 +43,23 @@ pub record Stops (k : ℕ) (fs : List ℕ) (i up : ℕ) : Type 0 where
   pub upto_is : up ≡ upto k fs
 
 module _ (k : ℕ) (fs : List ℕ) (i : ℕ) (r : KeysRise fs) where
-  pub stops_here : Here i ≡ searched k fs → Stops k fs i (i + 1)
+  pub stops_here : Ok i ≡ searched k fs → Stops k fs i (i + 1)
   unfolding searched
   stops_here e = elim (test (has_key k fs)) [
     | is h ↦
-        let z : Here i ≡ Here (key_place k fs) = simp h at e in
+        let z : Ok i ≡ Ok (key_place k fs) = simp h at e in
         let y : i ≡ key_place k fs = cc in
         let x : upto k fs ≡ suc (key_place k fs) = simp h at (counts k fs r) in
         record { most = omega arith; few = omega (arith, upto-length k fs); place = y; upto_is = omega arith }
-    | isnt h ↦ absurd (let z : Here i ≡ Absent (key_place k fs) = simp h at e in let y : ◌≡◌ {A = ℕ} 0 1 = cc in omega arith)
+    | isnt h ↦ absurd (let z : Ok i ≡ Err (key_place k fs) = simp h at e in let y : ◌≡◌ {A = ℕ} 0 1 = cc in omega arith)
   ]
 
-  pub stops_absent : Absent i ≡ searched k fs → Stops k fs i i
+  pub stops_absent : Err i ≡ searched k fs → Stops k fs i i
   unfolding searched
   stops_absent e = elim (test (has_key k fs)) [
-    | is h ↦ absurd (let z : Absent i ≡ Here (key_place k fs) = simp h at e in let y : ◌≡◌ {A = ℕ} 0 1 = cc in omega arith)
+    | is h ↦ absurd (let z : Err i ≡ Ok (key_place k fs) = simp h at e in let y : ◌≡◌ {A = ℕ} 0 1 = cc in omega arith)
     | isnt h ↦
-        let z : Absent i ≡ Absent (key_place k fs) = simp h at e in
+        let z : Err i ≡ Err (key_place k fs) = simp h at e in
         let y : i ≡ key_place k fs = cc in
         let x : upto k fs ≡ key_place k fs = simp h at (counts k fs r) in
         record { most = omega arith; few = omega (arith, upto-length k fs); place = y; upto_is = omega arith }

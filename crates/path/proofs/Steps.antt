@@ -7,10 +7,9 @@ use lib.ListN.{length, take, drop, get_or, length-take, length-drop}
 use lib.Seq.{take-take, length-take-le}
 use lib.Dec.{leb}
 use borrow.Author.Tests.{lt-ltb, le-ltb, le-leb, lt-leb}
+use Rattle.std.specs.Prelude.{Result, Ok, Err}
 use Rattle.forest.specs.Slices.{KeysRise, searched}
 use Rattle.forest.specs.declared.Cursor.{Cursor}
-use Rattle.forest.specs.declared.Found.{Found}
-use Rattle.forest.specs.declared.Found.TheVariants.{Here, Absent}
 use Rattle.forest.proofs.ListLaws.{is, isnt, test}
 use Rattle.path.specs.Ways.{base, block_at, block, keys_of, turn_of, land_of, descend, Lies, Deep}
 use Rattle.path.specs.Levels.{pushed, extended}
@@ -56,10 +55,10 @@ module _ (ws : List ℕ) (b : ℕ) where
       pub lent_asks : b + 16 ≤ length ws → ((length (take (b + 8 - (b + 1)) (drop (b + 1) ws)) ≡ 7) × (get_or ws b 0 - tag ≤ 7)) × KeysRise (lent tag)
       lent_asks l = ((length-take-le (b + 8 - (b + 1)) (drop (b + 1) ws) (simp length-drop (omega arith)) ∙ omega arith, omega arith), rw lent_is r)
 
-      found_here : (k i : ℕ) (x : Found) → x ≡ searched k (lent tag) → x ≡ Here i → Stops k (keys_of tag (block_at ws b)) i (i + 1)
+      found_here : (k i : ℕ) (x : Result ℕ ℕ) → x ≡ searched k (lent tag) → x ≡ Ok i → Stops k (keys_of tag (block_at ws b)) i (i + 1)
       found_here k i x e q = stops_here k (keys_of tag (block_at ws b)) i r (sym q ∙ e ∙ ap (searched k) lent_is)
 
-      found-absent : (k i : ℕ) (x : Found) → x ≡ searched k (lent tag) → x ≡ Absent i → Stops k (keys_of tag (block_at ws b)) i i
+      found-absent : (k i : ℕ) (x : Result ℕ ℕ) → x ≡ searched k (lent tag) → x ≡ Err i → Stops k (keys_of tag (block_at ws b)) i i
       found-absent k i x e q = stops_absent k (keys_of tag (block_at ws b)) i r (sym q ∙ e ∙ ap (searched k) lent_is)
 
   few_keys : (tag : ℕ) → length (keys_of tag (block_at ws b)) ≤ get_or ws b 0 - tag
@@ -82,17 +81,17 @@ module _ (ws : List ℕ) (b : ℕ) where
 
   -- each return, with the way and the answer of the search that the code has matched
   module _ (h : get_or ws b 0 ≤ 23) (r : KeysRise (keys_of 16 (block_at ws b))) (way : Way) where
-    pub turns_here : (k i : ℕ) (x : Found) → way ≡ Key k → x ≡ searched k (lent 16) → x ≡ Here i → Turns way (i + 1)
+    pub turns_here : (k i : ℕ) (x : Result ℕ ℕ) → way ≡ Key k → x ≡ searched k (lent 16) → x ≡ Ok i → Turns way (i + 1)
     turns_here k i x m e q = turns_key way k i (i + 1) m (found_here 16 h r k i x e q)
 
-    pub turns_absent : (k i : ℕ) (x : Found) → way ≡ Key k → x ≡ searched k (lent 16) → x ≡ Absent i → Turns way i
+    pub turns_absent : (k i : ℕ) (x : Result ℕ ℕ) → way ≡ Key k → x ≡ searched k (lent 16) → x ≡ Err i → Turns way i
     turns_absent k i x m e q = turns_key way k i i m (found-absent 16 h r k i x e q)
 
   module _ (h : get_or ws b 0 ≤ 39) (r : KeysRise (keys_of 32 (block_at ws b))) (way : Way) where
-    pub lands_here : (k i : ℕ) (x : Found) → way ≡ Key k → x ≡ searched k (lent 32) → x ≡ Here i → Lands way i
+    pub lands_here : (k i : ℕ) (x : Result ℕ ℕ) → way ≡ Key k → x ≡ searched k (lent 32) → x ≡ Ok i → Lands way i
     lands_here k i x m e q = lands_key way k i (i + 1) m (found_here 32 h r k i x e q)
 
-    pub lands_absent : (k i : ℕ) (x : Found) → way ≡ Key k → x ≡ searched k (lent 32) → x ≡ Absent i → Lands way i
+    pub lands_absent : (k i : ℕ) (x : Result ℕ ℕ) → way ≡ Key k → x ≡ searched k (lent 32) → x ≡ Err i → Lands way i
     lands_absent k i x m e q = lands_key way k i i m (found-absent 32 h r k i x e q)
 
   module _ (way : Way) where

@@ -10,7 +10,7 @@ ghost use Rattle.path.specs.Ways.{block_at, keys_of, turn_of, land_of, descend, 
 ghost use Rattle.path.specs.Levels.{pushed, extended, cut_at, right_branch, left_branch, Safe};
 ghost use Rattle.path.specs.Cores.{Ready, Standing, Goes, Sees, LeafIn, look_in, Ends, Looks};
 
-use forest::{Cursor, Found};
+use forest::Cursor;
 
 // Which way to go down: to the place of a key, to the first entry, or to the last.
 #[derive(Clone, Copy)]
@@ -109,8 +109,8 @@ fn turn(ws: &[u32], b: usize, way: Way) -> usize
     let s = (ws[b] - 16) as usize;
     match way {
         Way::Key(key) => match forest::search(key, &ws[b + 1..b + 8], s) {
-            Found::Here(i) => i + 1,
-            Found::Absent(i) => i,
+            Ok(i) => i + 1,
+            Err(i) => i,
         },
         Way::First => 0,
         Way::Last => s,
@@ -127,8 +127,8 @@ fn land(ws: &[u32], b: usize, way: Way) -> usize
     let s = (ws[b] - 32) as usize;
     match way {
         Way::Key(key) => match forest::search(key, &ws[b + 1..b + 8], s) {
-            Found::Here(i) => i,
-            Found::Absent(i) => i,
+            Ok(i) => i,
+            Err(i) => i,
         },
         Way::First => 0,
         Way::Last => s - 1,

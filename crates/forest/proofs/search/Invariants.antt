@@ -3,7 +3,4 @@ use Rattle.forest.proofs.Slices.{Searching}
 use Rattle.forest.proofs.search.Given as goal
 
 abbrev pub invariant-loop-i : goal.invariant-loop-i
-invariant-loop-i l = Searching l.k l.s l.n l.i l.place l.here
-
-abbrev pub decreases-loop-i : goal.decreases-loop-i
-decreases-loop-i l = l.i
+invariant-loop-i l = Searching l.k l.s l.n l.i l.found

@@ -7,13 +7,13 @@ search-requires c = let both = lent_asks c.args.ws.now c.args.b 32 c.requires.bo
   keys_rise = both.1;
 }
 
-pub returns-in-Here : goal.returns-in-Here
-returns-in-Here c =
-    lands_here c.args.ws.now c.args.b c.requires.bound.1 c.requires.keys_rise c.args.way _ _ _ c.in-Key.is c.search.ensures c.in-Here.is
+pub returns-in-Ok : goal.returns-in-Ok
+returns-in-Ok c =
+    lands_here c.args.ws.now c.args.b c.requires.bound.1 c.requires.keys_rise c.args.way _ _ _ c.in-Key.is c.search.ensures c.in-Ok.is
 
-pub returns-in-Absent : goal.returns-in-Absent
-returns-in-Absent c =
-    lands_absent c.args.ws.now c.args.b c.requires.bound.1 c.requires.keys_rise c.args.way _ _ _ c.in-Key.is c.search.ensures c.in-Absent.is
+pub returns-in-Err : goal.returns-in-Err
+returns-in-Err c =
+    lands_absent c.args.ws.now c.args.b c.requires.bound.1 c.requires.keys_rise c.args.way _ _ _ c.in-Key.is c.search.ensures c.in-Err.is
 
 pub returns-in-First : goal.returns-in-First
 returns-in-First c =

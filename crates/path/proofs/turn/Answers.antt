@@ -10,16 +10,16 @@ search-requires c = let both = lent_asks c.args.ws.now c.args.b 16 c.requires.bo
 
 pub overflow_add-result : goal.overflow_add-result
 overflow_add-result c =
-    let e = turns_here c.args.ws.now c.args.b c.requires.bound.1 c.requires.keys_rise c.args.way _ _ _ c.in-Key.is c.search.ensures c.in-Here.is in
+    let e = turns_here c.args.ws.now c.args.b c.requires.bound.1 c.requires.keys_rise c.args.way _ _ _ c.in-Key.is c.search.ensures c.in-Ok.is in
     omega (arith, e.1, c.requires.bound.1)
 
-pub returns-in-Here : goal.returns-in-Here
-returns-in-Here c =
-    turns_here c.args.ws.now c.args.b c.requires.bound.1 c.requires.keys_rise c.args.way _ _ _ c.in-Key.is c.search.ensures c.in-Here.is
+pub returns-in-Ok : goal.returns-in-Ok
+returns-in-Ok c =
+    turns_here c.args.ws.now c.args.b c.requires.bound.1 c.requires.keys_rise c.args.way _ _ _ c.in-Key.is c.search.ensures c.in-Ok.is
 
-pub returns-in-Absent : goal.returns-in-Absent
-returns-in-Absent c =
-    turns_absent c.args.ws.now c.args.b c.requires.bound.1 c.requires.keys_rise c.args.way _ _ _ c.in-Key.is c.search.ensures c.in-Absent.is
+pub returns-in-Err : goal.returns-in-Err
+returns-in-Err c =
+    turns_absent c.args.ws.now c.args.b c.requires.bound.1 c.requires.keys_rise c.args.way _ _ _ c.in-Key.is c.search.ensures c.in-Err.is
 
 pub returns-in-First : goal.returns-in-First
 returns-in-First c =
