@@ -118,10 +118,8 @@ pub fn search(k: u32, s: &[u32], n: usize) -> Result<usize, usize>
 {
     let mut found = Err(n);
     for i in (0..LEAF_SIZE).rev() {
-        if k <= s[i] {
-            if i < n {
-                found = if s[i] == k { Ok(i) } else { Err(i) };
-            }
+        if k <= s[i] && i < n {
+            found = if s[i] == k { Ok(i) } else { Err(i) };
         }
     }
     found
