@@ -1,22 +1,18 @@
 -- PROOFS. The words of a fresh pool, part by part, and what formatting answers
 use mathlib.Core.Path.{◌≡◌, refl, sym, ap, ◌∙◌}
 use mathlib.Core.List.{List, [], ◌∷◌, ◌++◌, append_assoc, map, reverse_aux}
-use mathlib.Core.Bool.{true, false}
+use mathlib.Core.Bool.{true}
 use Prim.Native.Nat.{ℕ, zero, suc, ◌+◌, ◌-◌, ◌*◌, ◌≤◌, ◌<◌}
 use native.Mathlib.Omega.{arith}
-use lib.ListN.{length, take, get_or, set, replicate, length-append, length-replicate, length-set, replicate-append-replicate}
-use lib.Seq.{take-length, paste, paste-zero}
-use lib.Dec.{eqb}
-use borrow.Author.Tests.{le-leb, lt-leb}
-use Rattle.forest.specs.Sizes.{most_trees, most_nodes}
+use lib.ListN.{length, take, drop, get_or, set, replicate, length-append, length-replicate, length-set, replicate-append-replicate}
+use lib.Seq.{take-length, paste}
+use borrow.Rule.Slice.PartMut.{put_mid}
 use Rattle.forest.specs.Lists.{pad}
 use Rattle.forest.specs.Rows.{Tree}
-use Rattle.forest.specs.declared.Refusal.TheVariants.{NoFormat}
-use Rattle.forest.specs.declared.Reply.TheVariants.{Nothing, Refused}
-use Rattle.forest.specs.Pools.{in_trees, node_words, nodes_from, root, encode, fresh, fresh_stack, formatted, format_words, format_answer, Sound}
+use Rattle.forest.specs.Pools.{in_trees, node_words, nodes_from, root, encode, fresh, fresh_stack, formatted, format_words, Sound}
 use Rattle.forest.proofs.CountLaws.{format_in, fresh_sound}
 use Rattle.pool.specs.Stores.{patched, down}
-use Rattle.pool.proofs.Patches.{copied_in, set-patched, begun, patched-length}
+use Rattle.pool.proofs.Patches.{copied_in, zeroed, set-patched, begun, patched-length}
 
 pub down-length : (n : ℕ) → length (down n) ≡ n
 down-length zero = refl
@@ -27,16 +23,9 @@ down-at zero i h = absurd (omega arith)
 down-at (suc n) zero h = omega arith
 down-at (suc n) (suc i) h = down-at n i (omega arith) ∙ omega arith
 
--- before the first turn of the loop that stores the stack
-pub unchanged : (ws : List ℕ) (a n : ℕ) → ws ≡ paste ws a (down n) (n - n)
-unchanged ws a n = let z : n - n ≡ 0 = omega arith in rw z (paste-zero ws a (down n))
-
--- a turn of it, with k numbers to go
-pub stacked : (ws v : List ℕ) (a n k : ℕ) → a + (n - k) < length ws → 0 < k → k ≤ n → v ≡ paste ws a (down n) (n - k) → set v (a + (n - k)) k ≡ paste ws a (down n) (n - (k - 1))
-stacked ws v a n k h p q e =
-    let s : n - k + 1 ≡ n - (k - 1) = omega arith in
-    let y : n - (n - k) ≡ k = omega arith in
-    copied_in ws v (down n) a (n - k) k h (rw down-length (omega arith)) (sym (down-at n (n - k) (omega arith) ∙ y)) e ∙ ap (paste ws a (down n)) s
+-- a turn of the loop that stores the stack
+pub stacked : (ws v : List ℕ) (a n i : ℕ) → a + i < length ws → i < n → v ≡ paste ws a (down n) i → set v (a + i) (n - i) ≡ paste ws a (down n) (i + 1)
+stacked ws v a n i h p e = copied_in ws v (down n) a i (n - i) h (rw down-length p) (sym (down-at n i p)) e
 
 -- the stack top first, turned over
 turned : (k c : ℕ) → reverse_aux (fresh_stack (suc k) c) (down k) ≡ down (k + c)
@@ -83,36 +72,48 @@ next v v' l s a b e h k q t = rw (e, q) (begun v l s a h k t)
 clear_long : (v v' : List ℕ) (a r long : ℕ) → v' ≡ patched v a (replicate r 0) → a + r ≤ long → length v ≡ long → length v' ≡ long
 clear_long v v' a r long e h k = ap length e ∙ patched-length v (replicate r 0) a (omega (arith, length-replicate {A = ℕ} r 0)) ∙ k
 
--- the steps of laying out, in order: the words after the first clearing, after the second, and at the end
+-- the steps of laying out, in order: the zeros that fill the roots, those that fill the nodes, and the words at the end
 module _ (ws : List ℕ) (T N : ℕ) (long : length ws ≡ T + 17 * N + 3) where
   abbrev w1 : List ℕ
   w1 = set ws 0 T
 
-  pub long1 : length w1 ≡ T + 17 * N + 3
+  long1 : length w1 ≡ T + 17 * N + 3
   long1 = length-set ws 0 T ∙ long
 
-  module _ (w2 : List ℕ) (e2 : w2 ≡ patched w1 1 (replicate T 0)) where
+  module _ (roots : List ℕ) (filled : roots ≡ replicate (length (take (1 + T - 1) (drop 1 w1))) 0) where
+    abbrev w2 : List ℕ
+    w2 = put_mid 1 (1 + T - 1) w1 roots
+
+    e2 : w2 ≡ patched w1 1 (replicate T 0)
+    e2 = zeroed w1 roots 1 (1 + T) T refl (omega (arith, long1)) filled
+
     abbrev w3 : List ℕ
     w3 = set w2 (T + 1) N
 
-    pub long2 : length w2 ≡ T + 17 * N + 3
+    long2 : length w2 ≡ T + 17 * N + 3
     long2 = clear_long w1 w2 1 T (T + 17 * N + 3) e2 (omega arith) long1
 
-    pub long3 : length w3 ≡ T + 17 * N + 3
+    long3 : length w3 ≡ T + 17 * N + 3
     long3 = length-set w2 (T + 1) N ∙ long2
 
-    module _ (w4 : List ℕ) (e4 : w4 ≡ patched w3 (T + 2) (replicate (16 * N) 0)) where
+    module _ (nodes : List ℕ) (cleared : nodes ≡ replicate (length (take (T + 2 + 16 * N - (T + 2)) (drop (T + 2) w3))) 0) where
+      abbrev w4 : List ℕ
+      w4 = put_mid (T + 2) (T + 2 + 16 * N - (T + 2)) w3 nodes
+
+      e4 : w4 ≡ patched w3 (T + 2) (replicate (16 * N) 0)
+      e4 = zeroed w3 nodes (T + 2) (T + 2 + 16 * N) (16 * N) refl (omega (arith, long3)) cleared
+
       abbrev w5 : List ℕ
       w5 = set w4 (T + 2 + 16 * N) N
 
-      pub long4 : length w4 ≡ T + 17 * N + 3
+      long4 : length w4 ≡ T + 17 * N + 3
       long4 = clear_long w3 w4 (T + 2) (16 * N) (T + 17 * N + 3) e4 (omega arith) long3
 
-      pub long5 : length w5 ≡ T + 17 * N + 3
+      long5 : length w5 ≡ T + 17 * N + 3
       long5 = length-set w4 (T + 2 + 16 * N) N ∙ long4
 
       module _ (w6 : List ℕ) (e6 : w6 ≡ patched w5 (T + 3 + 16 * N) (down N)) where
-        pub long6 : length w6 ≡ T + 17 * N + 3
+        long6 : length w6 ≡ T + 17 * N + 3
         long6 = ap length e6 ∙ patched-length w5 (down N) (T + 3 + 16 * N) (omega (arith, long5, down-length N)) ∙ long5
 
         pub laid : w6 ≡ encode (fresh T N)
@@ -138,43 +139,9 @@ module _ (ws : List ℕ) (T N : ℕ) (long : length ws ≡ T + 17 * N + 3) where
             next w5 w6 p5 (down N) (T + 3 + 16 * N) (length w6) e6 (sym l5) (omega (arith, long5)) (omega (arith, long6, down-length N)) s5 in
             sym (take-length w6) ∙ s6 ∙ sym (fresh_words T N)
 
--- what the tests say
-module _ (T N len : ℕ) where
-  pub formatted-fits : formatted T N len ≡ true → len ≡ T + 17 * N + 3
-  formatted-fits h = (format_in T N len h).3
-
-  pub few_trees : T ≡ 0 → formatted T N len ≡ false
-  unfolding formatted
-  few_trees h = simp (lt-leb 1 T (omega arith))
-
-  pub many_trees : 1 ≤ T → most_trees < T → formatted T N len ≡ false
-  unfolding formatted
-  many_trees a h = simp (le-leb 1 T a, lt-leb T most_trees h)
-
-  pub many_nodes : 1 ≤ T → T ≤ most_trees → most_nodes < N → formatted T N len ≡ false
-  unfolding formatted
-  many_nodes a b h = simp (le-leb 1 T a, le-leb T most_trees b, lt-leb N most_nodes h)
-
-  pub by_length : 1 ≤ T → T ≤ most_trees → N ≤ most_nodes → formatted T N len ≡ eqb len (T + 17 * N + 3)
-  unfolding formatted
-  by_length a b h = simp (le-leb 1 T a, le-leb T most_trees b, le-leb N most_nodes h)
-
-module _ (T N : ℕ) (ws : List ℕ) where
-  pub format_words_lem : formatted T N (length ws) ≡ true → encode (fresh T N) ≡ format_words T N ws
-  unfolding format_words
-  format_words_lem h = simp h
-
-  pub format_nothing : formatted T N (length ws) ≡ true → Nothing ≡ format_answer T N ws
-  unfolding format_answer
-  format_nothing h = simp h
-
-  pub format_kept : formatted T N (length ws) ≡ false → ws ≡ format_words T N ws
-  unfolding format_words
-  format_kept h = simp h
-
-  pub format_refused : formatted T N (length ws) ≡ false → Refused NoFormat ≡ format_answer T N ws
-  unfolding format_answer
-  format_refused h = simp h
+-- the length that the tests let through
+pub formatted-fits : (T N len : ℕ) → formatted T N len ≡ true → len ≡ T + 17 * N + 3
+formatted-fits T N len h = (format_in T N len h).3
 
 -- formatted words are sound, whatever the minimum of a leaf
 pub format_sound : (m T N : ℕ) (ws : List ℕ) → formatted T N (length ws) ≡ true → Sound m (format_words T N ws)

@@ -1,7 +1,7 @@
 // The pool of nodes: its layout in the words, reading and storing a node, taking and freeing one, formatting.
 #![tactic(auto)]
 
-ghost use Rattle.std.specs.Prelude.{◌≡◌, false, ◌+◌, ◌-◌, ◌*◌, ◌≤◌, ◌<◌, length, get_or, set, replicate};
+ghost use Rattle.std.specs.Prelude.{◌≡◌, ◌+◌, ◌*◌, ◌≤◌, ◌<◌, length, get_or, set};
 ghost use Rattle.forest.specs.Pools.{formatted, format_words, format_answer, encode, fresh};
 ghost use Rattle.pool.specs.Stores.{block, with_block, patched, stack_at, free_count, top_node, taken_words, freed_words, down};
 ghost use Rattle.pool.specs.Stores.{Placed, Stocked, Freeable};
@@ -57,6 +57,7 @@ pub fn set_root(ws: &mut [u32], tree: u32, n: u32)
 }
 
 // The words of node n.
+#[tactic(auto, unfolding(forest::specs::Slices::block_at))]
 pub fn load(ws: &[u32], t: usize, n: u32) -> [u32; 16]
     requires { Placed ws.now t n }
     ensures { result ≡ block ws.now t n }
@@ -64,24 +65,22 @@ pub fn load(ws: &[u32], t: usize, n: u32) -> [u32; 16]
     // node 1 starts at t + 2
     let b = t + NODE_SIZE * (n as usize) - 14;
     let mut node = [0u32; 16];
-    for i in 0..16 {
-        node[i] = ws[b + i];
-    }
+    node.copy_from_slice(&ws[b..b + NODE_SIZE]);
     node
 }
 
 // Node n gets the words of `node`.
+#[tactic(auto, unfolding(crate::specs::Stores::with_block, crate::specs::Stores::patched))]
 pub fn store(ws: &mut [u32], t: usize, n: u32, node: [u32; 16])
     requires { Placed ws.old t n }
     ensures { ws.new ≡ with_block ws.old t n node }
 {
     let b = t + NODE_SIZE * (n as usize) - 14;
-    for i in 0..16 {
-        ws[b + i] = node[i];
-    }
+    ws[b..b + NODE_SIZE].copy_from_slice(&node);
 }
 
 // Takes the node on top of the stack.
+#[tactic(auto, unfolding(crate::specs::Stores::taken_words))]
 pub fn alloc_node(ws: &mut [u32], t: usize) -> u32
     requires { Stocked ws.old t }
     ensures node { result ≡ top_node ws.old t }
@@ -97,6 +96,7 @@ pub fn alloc_node(ws: &mut [u32], t: usize) -> u32
 }
 
 // Puts a node on top of the stack, its words zeros.
+#[tactic(auto, unfolding(crate::specs::Stores::freed_words, crate::specs::Stores::pushed_words))]
 pub fn free_node(ws: &mut [u32], t: usize, n: u32)
     requires { Freeable ws.old t n }
     ensures { ws.new ≡ freed_words ws.old t n }
@@ -109,31 +109,13 @@ pub fn free_node(ws: &mut [u32], t: usize, n: u32)
 }
 
 // T and N are in range, and `long` is the length that they ask for.
+#[tactic(auto, unfolding(forest::specs::Pools::formatted))]
 fn format_fits(long: usize, trees: u32, nodes: u32) -> bool
     ensures { result ≡ formatted trees nodes long }
 {
-    if trees == 0 {
-        return false;
-    }
-    if MAX_TREES < trees {
-        return false;
-    }
-    if MAX_NODES < nodes {
-        return false;
-    }
-    long == trees as usize + 17 * (nodes as usize) + 3
-}
-
-// r zeros from place a on.
-fn clear(ws: &mut [u32], a: usize, r: usize)
-    requires { a + r ≤ length ws.old }
-    ensures { ws.new ≡ patched ws.old a (replicate r 0) }
-{
-    let mut i = 0;
-    while i < r {
-        ws[a + i] = 0;
-        i += 1;
-    }
+    (1..=MAX_TREES).contains(&trees)
+        && nodes <= MAX_NODES
+        && long == trees as usize + 17 * (nodes as usize) + 3
 }
 
 // The numbers n, n - 1, .., 1 from place a on.
@@ -141,10 +123,8 @@ fn stack_all(ws: &mut [u32], a: usize, n: u32)
     requires { a + n ≤ length ws.old }
     ensures { ws.new ≡ patched ws.old a (down n) }
 {
-    let mut k = n;
-    while 0 < k {
-        ws[a + (n - k) as usize] = k;
-        k -= 1;
+    for i in 0..n {
+        ws[a + i as usize] = n - i;
     }
 }
 
@@ -156,14 +136,15 @@ fn lay_out(ws: &mut [u32], trees: u32, nodes: u32)
     let t = trees as usize;
     let n = nodes as usize;
     ws[0] = trees;
-    clear(ws, 1, t);
+    ws[1..1 + t].fill(0);
     ws[t + 1] = nodes;
-    clear(ws, t + 2, NODE_SIZE * n);
+    ws[t + 2..t + 2 + NODE_SIZE * n].fill(0);
     ws[t + 2 + NODE_SIZE * n] = nodes;
     stack_all(ws, t + 3 + NODE_SIZE * n, nodes);
 }
 
 // Makes the words those of a fresh pool; refused, exactly, if T or N is out of range or the length is another.
+#[tactic(auto, unfolding(forest::specs::Pools::format_words, forest::specs::Pools::format_answer))]
 pub fn format(ws: &mut [u32], trees: u32, nodes: u32) -> forest::Reply
     ensures words { ws.new ≡ format_words trees nodes ws.old }
     ensures answer { result ≡ format_answer trees nodes ws.old }
