@@ -57,7 +57,6 @@ pub fn set_root(ws: &mut [u32], tree: u32, n: u32)
 }
 
 // The words of node n.
-#[tactic(auto, unfolding(forest::specs::Slices::block_at))]
 pub fn load(ws: &[u32], t: usize, n: u32) -> [u32; 16]
     requires { Placed ws.now t n }
     ensures { result ≡ block ws.now t n }
@@ -65,18 +64,23 @@ pub fn load(ws: &[u32], t: usize, n: u32) -> [u32; 16]
     // node 1 starts at t + 2
     let b = t + NODE_SIZE * (n as usize) - 14;
     let mut node = [0u32; 16];
-    node.copy_from_slice(&ws[b..b + NODE_SIZE]);
+    // copy_from_slice is slower: it asks first whether the two overlap
+    for i in 0..NODE_SIZE {
+        node[i] = ws[b + i];
+    }
     node
 }
 
 // Node n gets the words of `node`.
-#[tactic(auto, unfolding(crate::specs::Stores::with_block, crate::specs::Stores::patched))]
 pub fn store(ws: &mut [u32], t: usize, n: u32, node: [u32; 16])
     requires { Placed ws.old t n }
     ensures { ws.new ≡ with_block ws.old t n node }
 {
     let b = t + NODE_SIZE * (n as usize) - 14;
-    ws[b..b + NODE_SIZE].copy_from_slice(&node);
+    // copy_from_slice is slower: it asks first whether the two overlap
+    for i in 0..NODE_SIZE {
+        ws[b + i] = node[i];
+    }
 }
 
 // Takes the node on top of the stack.
