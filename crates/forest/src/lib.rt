@@ -20,7 +20,7 @@ pub const MAX_NODES: u32 = 512;
 pub const LEAF_TAG: u32 = 32;
 
 // Why a call is refused.
-#[derive(Clone, Copy)]
+#[derive(Clone, Copy, Debug, PartialEq, Eq)]
 pub enum Refusal {
     Unsound,
     NoTree,
@@ -40,7 +40,7 @@ pub enum Reply {
 
 // An answer in document 01's numbers.
 #[repr(C)]
-#[derive(Clone, Copy)]
+#[derive(Clone, Copy, Debug, PartialEq, Eq)]
 pub struct Answer {
     pub number: u32,
     pub found: bool,
@@ -50,7 +50,7 @@ pub struct Answer {
 
 // A place in a tree: of each level from the root the node and the place in it; unused levels hold 0.
 #[repr(C)]
-#[derive(Clone, Copy)]
+#[derive(Clone, Copy, Debug, PartialEq, Eq)]
 pub struct Cursor {
     pub tree: u32,
     pub size: u32,
