@@ -88,9 +88,9 @@ shifting_step l m n j e h =
     ∙ set_at (take j (drop n l)) _ _ _ j t
     ∙ rw (take-suc (drop n l) j 0 (simp length-drop (omega arith)), append_snoc))
 
-pub shifting_end : (l m : List ℕ) (n j : ℕ) → m ≡ shifting l n j → j ≡ length l - n → n ≤ length l → m ≡ shifted l n
+pub shifting_end : (l : List ℕ) (n j : ℕ) → j ≡ length l - n → n ≤ length l → shifting l n j ≡ shifted l n
 unfolding shifted
-shifting_end l m n j e q h = e ∙ ap (shifting l n) q ∙ rw (take_all (length l - n) (drop n l) (simp length-drop (omega arith)))
+shifting_end l n j q h = ap (shifting l n) q ∙ rw (take_all (length l - n) (drop n l) (simp length-drop (omega arith)))
 
 -- a key below all of some keys is not among them
 none_above : (k f : ℕ) (fs : List ℕ) → k ≤ f → KeysAbove f fs → has_key k fs ≡ false

@@ -111,6 +111,7 @@ pub fn numbered(reply: Reply) -> Answer
 }
 
 // Search for `k` among the first `n` of the seven keys of a node, in order; all seven are read, and no jump goes by a key.
+#[tactic(auto, using(crate::proofs::Slices::search_stops, crate::proofs::Slices::search_ends))]
 pub fn search(k: u32, s: &[u32], n: usize) -> Result<usize, usize>
     requires s_len { (length s.now ≡ key_words) × (n ≤ key_words) }
     requires keys_rise { KeysRise (take n s.now) }
@@ -126,6 +127,7 @@ pub fn search(k: u32, s: &[u32], n: usize) -> Result<usize, usize>
 }
 
 // Insert `x` into `s` at position `i`, pushing out the last element.
+#[tactic(auto, using(crate::proofs::Slices::moved_down, crate::proofs::Slices::moved_end))]
 pub fn slice_insert(s: &mut [u32], i: usize, x: u32)
     requires { i < length s.old }
     ensures { s.new ≡ inserted s.old i x }
@@ -137,6 +139,7 @@ pub fn slice_insert(s: &mut [u32], i: usize, x: u32)
 }
 
 // Shift elements in `s` to the left by `n` positions.
+#[tactic(auto, using(crate::proofs::Slices::shifting_step, crate::proofs::Slices::shifting_end))]
 pub fn slice_shift(s: &mut [u32], n: usize)
     requires { n ≤ length s.old }
     ensures { s.new ≡ shifted s.old n }
