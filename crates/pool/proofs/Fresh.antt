@@ -12,7 +12,7 @@ use Rattle.forest.specs.Rows.{Tree}
 use Rattle.forest.specs.Pools.{in_trees, node_words, nodes_from, root, encode, fresh, fresh_stack, formatted, format_words, Sound}
 use Rattle.forest.proofs.CountLaws.{format_in, fresh_sound}
 use Rattle.pool.specs.Stores.{patched, down}
-use Rattle.pool.proofs.Patches.{copied_in, zeroed, set-patched, begun, patched-length}
+use Rattle.pool.proofs.Patches.{copied_in, copied_back, zeroed, set-patched, begun, patched-length}
 
 pub down-length : (n : ℕ) → length (down n) ≡ n
 down-length zero = refl
@@ -26,6 +26,10 @@ down-at (suc n) (suc i) h = down-at n i (omega arith) ∙ omega arith
 -- a turn of the loop that stores the stack
 pub stacked : (ws v : List ℕ) (a n i : ℕ) → a + i < length ws → i < n → v ≡ paste ws a (down n) i → set v (a + i) (n - i) ≡ paste ws a (down n) (i + 1)
 stacked ws v a n i h p e = copied_in ws v (down n) a i (n - i) h (rw down-length p) (sym (down-at n i p)) e
+
+-- and what it leaves
+pub stacked_all : (ws v : List ℕ) (a n i : ℕ) → i ≡ n → v ≡ paste ws a (down n) i → v ≡ patched ws a (down n)
+stacked_all ws v a n i f e = copied_back ws v (down n) a i (rw down-length f) e
 
 -- the stack top first, turned over
 turned : (k c : ℕ) → reverse_aux (fresh_stack (suc k) c) (down k) ≡ down (k + c)

@@ -57,6 +57,7 @@ pub fn set_root(ws: &mut [u32], tree: u32, n: u32)
 }
 
 // The words of node n.
+#[tactic(auto, using(crate::proofs::Patches::copied_out))]
 pub fn load(ws: &[u32], t: usize, n: u32) -> [u32; 16]
     requires { Placed ws.now t n }
     ensures { result ≡ block ws.now t n }
@@ -72,6 +73,7 @@ pub fn load(ws: &[u32], t: usize, n: u32) -> [u32; 16]
 }
 
 // Node n gets the words of `node`.
+#[tactic(auto, using(crate::proofs::Patches::copied_in, crate::proofs::Patches::stored))]
 pub fn store(ws: &mut [u32], t: usize, n: u32, node: [u32; 16])
     requires { Placed ws.old t n }
     ensures { ws.new ≡ with_block ws.old t n node }
@@ -123,6 +125,7 @@ fn format_fits(long: usize, trees: u32, nodes: u32) -> bool
 }
 
 // The numbers n, n - 1, .., 1 from place a on.
+#[tactic(auto, using(crate::proofs::Fresh::stacked, crate::proofs::Fresh::stacked_all))]
 fn stack_all(ws: &mut [u32], a: usize, n: u32)
     requires { a + n ≤ length ws.old }
     ensures { ws.new ≡ patched ws.old a (down n) }
@@ -148,7 +151,7 @@ fn lay_out(ws: &mut [u32], trees: u32, nodes: u32)
 }
 
 // Makes the words those of a fresh pool; refused, exactly, if T or N is out of range or the length is another.
-#[tactic(auto, unfolding(forest::specs::Pools::format_words, forest::specs::Pools::format_answer))]
+#[tactic(auto, using(forest::proofs::CountLaws::format_in), unfolding(forest::specs::Pools::format_words, forest::specs::Pools::format_answer))]
 pub fn format(ws: &mut [u32], trees: u32, nodes: u32) -> forest::Reply
     ensures words { ws.new ≡ format_words trees nodes ws.old }
     ensures answer { result ≡ format_answer trees nodes ws.old }
