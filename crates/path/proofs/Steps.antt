@@ -1,6 +1,7 @@
 -- PROOFS. Each return of the functions that go down, over plain numbers
 use mathlib.Core.Path.{◌≡◌, refl, sym, ap, ◌∙◌}
 use mathlib.Core.List.{List}
+use mathlib.Core.Logic.{◌⊎◌, inl, inr}
 use Prim.Native.Nat.{ℕ, zero, suc, ◌+◌, ◌-◌, ◌≤◌, ◌<◌}
 use native.Mathlib.Omega.{arith}
 use lib.ListN.{length, take, drop, get_or, length-take, length-drop}
@@ -88,11 +89,9 @@ module _ (ws : List ℕ) (b : ℕ) where
     turns_absent k i x m e q = turns_key way k i i m (found-absent 16 h r k i x e q)
 
   module _ (h : get_or ws b 0 ≤ 39) (r : KeysRise (keys_of 32 (block_at ws b))) (way : Way) where
-    pub lands_here : (k i : ℕ) (x : Result ℕ ℕ) → way ≡ Key k → x ≡ searched k (lent 32) → x ≡ Ok i → Lands way i
-    lands_here k i x m e q = lands_key way k i (i + 1) m (found_here 32 h r k i x e q)
-
-    pub lands_absent : (k i : ℕ) (x : Result ℕ ℕ) → way ≡ Key k → x ≡ searched k (lent 32) → x ≡ Err i → Lands way i
-    lands_absent k i x m e q = lands_key way k i i m (found-absent 32 h r k i x e q)
+    pub lands_found : (k i : ℕ) (x : Result ℕ ℕ) → way ≡ Key k → x ≡ searched k (lent 32) → (x ≡ Ok i) ⊎ (x ≡ Err i) → Lands way i
+    lands_found k i x m e (inl q) = lands_key way k i (i + 1) m (found_here 32 h r k i x e q)
+    lands_found k i x m e (inr q) = lands_key way k i i m (found-absent 32 h r k i x e q)
 
   module _ (way : Way) where
     pub turns_first : way ≡ First → Turns way 0

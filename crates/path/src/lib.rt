@@ -127,8 +127,7 @@ fn land(ws: &[u32], b: usize, way: Way) -> usize
     let s = (ws[b] - 32) as usize;
     match way {
         Way::Key(key) => match forest::search(key, &ws[b + 1..b + 8], s) {
-            Ok(i) => i,
-            Err(i) => i,
+            Ok(i) | Err(i) => i,
         },
         Way::First => 0,
         Way::Last => s - 1,

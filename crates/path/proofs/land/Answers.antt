@@ -1,4 +1,4 @@
-use Rattle.path.proofs.Steps.{lent_asks, lands_here, lands_absent, lands_first, lands_last}
+use Rattle.path.proofs.Steps.{lent_asks, lands_found, lands_first, lands_last}
 use Rattle.path.proofs.land.Goals as goal
 
 pub search-requires : goal.search-requires
@@ -9,11 +9,11 @@ search-requires c = let both = lent_asks c.args.ws.now c.args.b 32 c.requires.bo
 
 pub returns-in-Ok : goal.returns-in-Ok
 returns-in-Ok c =
-    lands_here c.args.ws.now c.args.b c.requires.bound.1 c.requires.keys_rise c.args.way _ _ _ c.in-Key.is c.search.ensures c.in-Ok.is
+    lands_found c.args.ws.now c.args.b c.requires.bound.1 c.requires.keys_rise c.args.way _ _ _ c.in-Key.is c.search.ensures c.in-Ok.is
 
-pub returns-in-Err : goal.returns-in-Err
-returns-in-Err c =
-    lands_absent c.args.ws.now c.args.b c.requires.bound.1 c.requires.keys_rise c.args.way _ _ _ c.in-Key.is c.search.ensures c.in-Err.is
+pub returns-in-Ok-2 : goal.returns-in-Ok-2
+returns-in-Ok-2 c =
+    lands_found c.args.ws.now c.args.b c.requires.bound.1 c.requires.keys_rise c.args.way _ _ _ c.in-Key.is c.search.ensures c.in-Ok.is
 
 pub returns-in-First : goal.returns-in-First
 returns-in-First c =
