@@ -1,3 +1,4 @@
+-- Each write puts one part of a fresh pool behind those that stand (`laid`).
 use Rattle.pool.proofs.Fresh.{laid}
 use Rattle.pool.proofs.lay_out.Goals as goal
 

@@ -1,3 +1,4 @@
+-- At the loop's head the first i words of the node have been copied.
 use mathlib.Core.Path.{◌≡◌}
 use lib.ListN.{length, take, drop}
 use Rattle.pool.proofs.load.Given as goal

@@ -1,3 +1,4 @@
+-- At the loop's head the first i numbers have been stored.
 use mathlib.Core.Path.{◌≡◌}
 use lib.Seq.{paste}
 use Rattle.pool.specs.Stores.{down}
