@@ -5,7 +5,7 @@ use Rattle.std.proofs.lemmas.List.{get_or-take, get_or-drop}
 use Rattle.forest.specs.Sizes.{leaf_least}
 use mathlib.Core.Path.{◌≡◌, refl, sym, ap, ◌∙◌}
 use mathlib.Core.List.{List}
-use mathlib.Core.Bool.{Bool, true, false, ◌&&◌}
+use mathlib.Core.Bool.{Bool, true, false, true≢false, ◌&&◌, not}
 use Prim.Native.Nat.{ℕ, zero, suc, ◌+◌, ◌-◌, ◌*◌, ◌/◌, ◌%◌, ◌^◌, ◌≤◌, ◌<◌}
 use native.Mathlib.Omega.{arith}
 use lib.ListN.{length, get_or, set, take, drop}
@@ -14,8 +14,8 @@ use lib.Pow.{shl_exact}
 use lib.Dec.{leb, eqb}
 use borrow.Author.Tests.{le-leb, lt-leb, leb-true}
 use Rattle.std.proofs.Common.{Some, None}
-use Rattle.walk.specs.Marks.{bit, has, mark}
-use Rattle.walk.specs.Walks.{lower, items, zeros, climbs, ends, node_fits, links, leaf_fits, leaf_items, leaf_walk}
+use Rattle.walk.specs.Marks.{bit, has, mark, newly}
+use Rattle.walk.specs.Walks.{lower, place, place_of, meets, items, zeros, climbs, ends, node_fits, links, leaf_fits, leaf_items, leaf_walk}
 use Rattle.forest.proofs.ListLaws.{is, isnt, test, both}
 use Rattle.walk.proofs.WalkLaws.{lower_some}
 use Rattle.std.proofs.lemmas.Grind.{common_steps}
@@ -63,6 +63,48 @@ unfolding mark
 mark_write ms zero h = absurd (omega arith)
 mark_write ms (suc i) h = let d : suc i - 1 ≡ i = omega arith in rw (d, shifted (get_or ms (i / 64) 0) (i % 64) (omega arith))
 
+-- A node that may be met
+outside : (x y z : Bool) → x && y ≡ false → x && (y && z) ≡ false
+outside true true z f = absurd (true≢false f)
+outside true false z f = refl
+outside false y z f = refl
+
+marked : (x y : Bool) → x && (y && false) ≡ false
+marked true true = refl
+marked true false = refl
+marked false y = refl
+
+pub met_before : (N n : ℕ) (ms : List ℕ) → None ≡ newly ms n → meets N ms n ≡ false
+unfolding meets
+met_before N n ms p = elim (test (has ms n)) [
+  | is f ↦ rw f (marked (leb 1 n) (leb n N))
+  | isnt f ↦ let g : Some (mark ms n) ≡ None = sym (rw f) ∙ sym p in cc
+]
+
+module _ (T N n : ℕ) (ms : List ℕ) where
+  pub not_there : None ≡ place_of T N n → meets N ms n ≡ false
+  unfolding meets
+  not_there p = elim (test (leb 1 n && leb n N)) [
+    | is f ↦ let g : Some (place T n) ≡ None = sym (rw f) ∙ sym p in cc
+    | isnt f ↦ outside (leb 1 n) (leb n N) (not (has ms n)) f
+  ]
+
+  -- b is where its words start, seen the marks with its own
+  pub record Met (b : ℕ) (seen : List ℕ) : Type 0 where
+    pub may : meets N ms n ≡ true
+    pub there : place T n ≡ b
+    pub marks : mark ms n ≡ seen
+
+  pub met : (b : ℕ) (seen : List ℕ) → Some b ≡ place_of T N n → Some seen ≡ newly ms n → Met b seen
+  unfolding meets
+  met b seen p m =
+      let r = cond_some (leb 1 n && leb n N) (place T n) b (sym p) in
+      let s = both (leb 1 n) (leb n N) r.0 in
+      elim (test (has ms n)) [
+        | is f ↦ let g : None ≡ Some seen = sym (rw f) ∙ sym m in cc
+        | isnt f ↦ let g : Some (mark ms n) ≡ Some seen = sym (rw f) ∙ sym m in record { may = rw (s.0, s.1, f); there = r.1; marks = cc }
+      ]
+
 -- Nodes: how many links
 module _ (ws : List ℕ) (b a t l c : ℕ) where
   pub links_none : None ≡ links ws b a t l c → node_fits ws b a t l c ≡ false
@@ -94,25 +136,25 @@ module _ (ws : List ℕ) (b : ℕ) (e : Bool) (ms : List ℕ) (q : ℕ) where
   leaf_none n = rw (links_none ws b (b + 1) 32 (lower e leaf_least) 7 n)
 
   module _ (s : ℕ) (n : Some s ≡ links ws b (b + 1) 32 (lower e leaf_least) 7) where
-    met : Fitting ws b (b + 1) 32 (lower e leaf_least) 7 s
-    met = links_some ws b (b + 1) 32 (lower e leaf_least) 7 s n
+    fit : Fitting ws b (b + 1) 32 (lower e leaf_least) 7 s
+    fit = links_some ws b (b + 1) 32 (lower e leaf_least) 7 s n
 
     these : leaf_items ws b ≡ items ws (b + 1) (b + 1 + 7) s
     these =
-        let d : get_or ws b 0 - 32 ≡ s = omega (arith, met.same) in
+        let d : get_or ws b 0 - 32 ≡ s = omega (arith, fit.same) in
         let t : b + 1 + 7 ≡ b + 8 = omega arith in
         rw (d, t)
 
     pub leaf_low : climbs q (items ws (b + 1) (b + 1 + 7) s) ≡ false → leaf_walk ws leaf_least b e ms q ≡ None
     unfolding leaf_walk leaf_fits
-    leaf_low f = rw (met.fits, these, f)
+    leaf_low f = rw (fit.fits, these, f)
 
     pub leaf_met : climbs q (items ws (b + 1) (b + 1 + 7) s) ≡ true →
         leaf_walk ws leaf_least b e ms q ≡ Some (record { marks = ms; next = get_or ws (b + s) 0 + 1; low = get_or ws (b + 1) 0 })
     unfolding leaf_walk leaf_fits
     leaf_met f =
-        let d : s ≡ suc (s - 1) = omega (arith, met.some, lower_some e leaf_least (omega arith)) in
+        let d : s ≡ suc (s - 1) = omega (arith, fit.some, lower_some e leaf_least (omega arith)) in
         let t : b + s ≡ b + 1 + (s - 1) = omega arith in
         let k : get_or ws (b + 1 + (s - 1)) 0 + 1 ≡ suc (get_or ws (b + 1 + (s - 1)) 0) = omega arith in
         let g : leaf_items ws b ≡ items ws (b + 1) (b + 1 + 7) (suc (s - 1)) = these ∙ ap (items ws (b + 1) (b + 1 + 7)) d in
-        rw (met.fits, g, t, k, rw d at f, ends-items ws (b + 1) (b + 1 + 7) (s - 1) q)
+        rw (fit.fits, g, t, k, rw d at f, ends-items ws (b + 1) (b + 1 + 7) (s - 1) q)

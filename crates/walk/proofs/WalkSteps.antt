@@ -1,21 +1,20 @@
 -- Laws that the proof of the walk cites: what it is at a node, and the loop over the children from the k-th on
 use Rattle.std.proofs.Common.{Option, Some, None, option_and_then}
-use Rattle.std.proofs.lemmas.Option.{cond_some}
 use Rattle.forest.specs.Sizes.{leaf_least}
 use mathlib.Core.Path.{◌≡◌, refl, sym, ◌∙◌}
 use mathlib.Core.List.{List}
-use mathlib.Core.Bool.{Bool, true, false, true≢false, cond, ◌&&◌, not}
+use mathlib.Core.Bool.{Bool, true, false, cond}
 use Prim.Native.Nat.{ℕ, zero, suc, ◌+◌, ◌-◌, ◌≤◌, ◌<◌}
 use native.Mathlib.Omega.{arith}
 use lib.ListN.{get_or}
-use lib.Dec.{eqb, leb}
+use lib.Dec.{eqb}
 use borrow.Author.Tests.{eqb-true, eqb-false, eq-eqb, ne_eqb}
-use Rattle.forest.proofs.ListLaws.{is, isnt, test, both}
+use Rattle.forest.proofs.ListLaws.{is, isnt, test}
 use Rattle.walk.specs.declared.Walked.{Walked}
-use Rattle.walk.specs.Marks.{has, mark, newly}
-use Rattle.walk.specs.Walks.{lastly, lower, items, place, place_of, meets, leaf_walk, links, inner_fits, at_end, rest, others, inner_walk, walk}
+use Rattle.walk.specs.Marks.{newly}
+use Rattle.walk.specs.Walks.{lastly, lower, items, place_of, meets, leaf_walk, links, inner_fits, at_end, rest, others, inner_walk, walk}
 use Rattle.walk.proofs.WalkLaws.{lower_some}
-use Rattle.walk.proofs.Laws.{links_none, Fitting, links_some}
+use Rattle.walk.proofs.Laws.{Met, met, links_none, Fitting, links_some}
 
 lastly-items : (ws : List ℕ) (e : Bool) (a b k c : ℕ) → k ≤ c → lastly e (items ws a b (c - k)) ≡ at_end e k c
 lastly-items ws e a b k c h = elim (test (eqb k c)) [
@@ -23,58 +22,22 @@ lastly-items ws e a b k c h = elim (test (eqb k c)) [
   | isnt f ↦ let g = eqb-false k c f in let d : c - k ≡ suc (c - k - 1) = omega arith in rw (f, d)
 ]
 
-outside : (x y z : Bool) → x && y ≡ false → x && (y && z) ≡ false
-outside true true z f = absurd (true≢false f)
-outside true false z f = refl
-outside false y z f = refl
-
-marked : (x y : Bool) → x && (y && false) ≡ false
-marked true true = refl
-marked true false = refl
-marked false y = refl
-
 -- what is left of the walk over the inner node at b, of c children, from its k-th on; x is what the walks before hand back
 unfoldable pub left_of : List ℕ → ℕ → ℕ → ℕ → Bool → ℕ → ℕ → ℕ → Walked → Option Walked
 left_of ws T N h e b c k x = rest (walk ws T N leaf_least (h - 1)) e (items ws (b + k) (b + 8 + k) (c - k)) x
 
-module _ (ws : List ℕ) (T N : ℕ) (e : Bool) (n : ℕ) (ms : List ℕ) (q h : ℕ) where
-  walk_no : (h : ℕ) → meets N ms n ≡ false → walk ws T N leaf_least h e n ms q ≡ None
-  walk_no zero f = rw f
-  walk_no (suc h) f = rw f
+pub walk_no : (ws : List ℕ) (T N h : ℕ) (e : Bool) (n : ℕ) (ms : List ℕ) (q : ℕ) → meets N ms n ≡ false → walk ws T N leaf_least h e n ms q ≡ None
+walk_no ws T N zero e n ms q f = rw f
+walk_no ws T N (suc h) e n ms q f = rw f
 
-  pub walk_nowhere : None ≡ place_of T N n → walk ws T N leaf_least h e n ms q ≡ None
-  unfolding meets
-  walk_nowhere p = elim (test (leb 1 n && leb n N)) [
-    | is f ↦ let g : Some (place T n) ≡ None = sym (rw f) ∙ sym p in cc
-    | isnt f ↦ walk_no h (outside (leb 1 n) (leb n N) (not (has ms n)) f)
-  ]
-
-  pub walk_again : None ≡ newly ms n → walk ws T N leaf_least h e n ms q ≡ None
-  unfolding meets
-  walk_again p = elim (test (has ms n)) [
-    | is f ↦ walk_no h (rw f (marked (leb 1 n) (leb n N)))
-    | isnt f ↦ let g : Some (mark ms n) ≡ None = sym (rw f) ∙ sym p in cc
-  ]
-
+module _ (ws : List ℕ) (T N h : ℕ) (e : Bool) (n : ℕ) (ms : List ℕ) (q : ℕ) where
   -- b is where its words start, seen the marks with its own
   module _ (b : ℕ) (seen : List ℕ) (p : Some b ≡ place_of T N n) (m : Some seen ≡ newly ms n) where
-    record Met : Type 0 where
-      may : meets N ms n ≡ true
-      there : place T n ≡ b
-      marks : mark ms n ≡ seen
-
-    met : Met
-    unfolding meets
-    met =
-        let r = cond_some (leb 1 n && leb n N) (place T n) b (sym p) in
-        let s = both (leb 1 n) (leb n N) r.0 in
-        elim (test (has ms n)) [
-          | is f ↦ let g : None ≡ Some seen = sym (rw f) ∙ sym m in cc
-          | isnt f ↦ let g : Some (mark ms n) ≡ Some seen = sym (rw f) ∙ sym m in record { may = rw (s.0, s.1, f); there = r.1; marks = cc }
-        ]
+    may : Met T N n ms b seen
+    may = met T N n ms b seen p m
 
     pub walk_leaf : h ≡ 0 → walk ws T N leaf_least h e n ms q ≡ leaf_walk ws leaf_least b e seen q
-    walk_leaf z = rw (z, met.may, met.there, met.marks)
+    walk_leaf z = rw (z, may.may, may.there, may.marks)
 
     module _ (z : h ≡ 0 → ⊥) where
       level : h ≡ suc (h - 1)
@@ -82,7 +45,7 @@ module _ (ws : List ℕ) (T N : ℕ) (e : Bool) (n : ℕ) (ms : List ℕ) (q h :
 
       pub walk_unfit : None ≡ links ws b b 15 (lower e 4) 8 → walk ws T N leaf_least h e n ms q ≡ None
       unfolding inner_walk inner_fits
-      walk_unfit f = rw (level, met.may, met.there, links_none ws b b 15 (lower e 4) 8 f)
+      walk_unfit f = rw (level, may.may, may.there, links_none ws b b 15 (lower e 4) 8 f)
 
       -- it has c children; v is the edge of the first
       module _ (c : ℕ) (l : Some c ≡ links ws b b 15 (lower e 4) 8) (v : Bool) (g : v ≡ at_end e 1 c) where
@@ -96,7 +59,7 @@ module _ (ws : List ℕ) (T N : ℕ) (e : Bool) (n : ℕ) (ms : List ℕ) (q h :
 
         pub walk_first : None ≡ walk ws T N leaf_least (h - 1) v (get_or ws (b + 8) 0) seen q → walk ws T N leaf_least h e n ms q ≡ None
         unfolding inner_walk inner_fits
-        walk_first w = rw (level, met.may, met.there, fit.fits, met.marks, edge, ← w)
+        walk_first w = rw (level, may.may, may.there, fit.fits, may.marks, edge, ← w)
 
         pub walk_rest : (x : Walked) → Some x ≡ walk ws T N leaf_least (h - 1) v (get_or ws (b + 8) 0) seen q → walk ws T N leaf_least h e n ms q ≡ left_of ws T N h e b c 1 x
         unfolding inner_walk inner_fits left_of
@@ -104,7 +67,7 @@ module _ (ws : List ℕ) (T N : ℕ) (e : Bool) (n : ℕ) (ms : List ℕ) (q h :
             let s : get_or ws b 0 - 16 ≡ c - 1 = omega (arith, fit.same) in
             let d : suc (h - 1) - 1 ≡ h - 1 = omega arith in
             let o : b + 8 + 1 ≡ b + 9 = omega arith in
-            rw (level, met.may, met.there, fit.fits, met.marks, edge, ← w, s, d, o)
+            rw (level, may.may, may.there, fit.fits, may.marks, edge, ← w, s, d, o)
 
 -- the loop over the children: v is the edge of the next one
 module _ (ws : List ℕ) (T N h : ℕ) (e : Bool) (b c k : ℕ) (x : Walked) where

@@ -1,12 +1,13 @@
 use Rattle.std.proofs.Common.{sym, ◌∙◌}
-use Rattle.walk.proofs.WalkSteps.{walk_nowhere, walk_again, walk_leaf, walk_unfit, walk_first, walk_rest, left_no, left_low, left_on, left_end}
+use Rattle.walk.proofs.Laws.{not_there, met_before}
+use Rattle.walk.proofs.WalkSteps.{walk_no, walk_leaf, walk_unfit, walk_first, walk_rest, left_no, left_low, left_on, left_end}
 use Rattle.walk.proofs.NodePool.+walk_subtree.Goals as goal
 
 pub returns-in_err-b : goal.returns-in_err-b
-returns-in_err-b t c = c.from_residual.ensures ∙ sym (walk_nowhere _ _ _ _ _ _ _ _ c.in_err-b.ensures.place)
+returns-in_err-b t c = c.from_residual.ensures ∙ sym (walk_no _ _ _ _ _ _ _ _ (not_there _ _ _ _ c.in_err-b.ensures.place))
 
 pub returns-in_err-seen : goal.returns-in_err-seen
-returns-in_err-seen t c = c.from_residual-in_err-seen.ensures ∙ sym (walk_again _ _ _ _ _ _ _ _ c.in_err-seen.ensures)
+returns-in_err-seen t c = c.from_residual-in_err-seen.ensures ∙ sym (walk_no _ _ _ _ _ _ _ _ (met_before _ _ _ c.in_err-seen.ensures))
 
 pub returns-then-high-eq0 : goal.returns-then-high-eq0
 returns-then-high-eq0 t c = c.leaf_walk.ensures ∙ sym (walk_leaf _ _ _ _ _ _ _ _ _ _ c.in_ok-b.ensures.place c.in_ok-seen.ensures c.if-high-eq0.true)
