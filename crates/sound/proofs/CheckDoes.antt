@@ -15,15 +15,15 @@ use Rattle.forest.specs.Rows.{Tree, Good, line}
 use Rattle.forest.specs.Trees.{pairs, numbers}
 use Rattle.forest.specs.Pools.{Pool, WellFormed, AllGood, used, root, leaf_words, inner_words, node_words, nodes_from, encode, Sound}
 use Rattle.forest.proofs.ListLaws.{is, isnt, test, total-append}
-use Rattle.walk.specs.declared.Walked.{Walked}
+use Rattle.std.proofs.Common.{Some}
 use Rattle.walk.specs.Marks.{mark}
 use Rattle.walk.proofs.MarkLaws.{mark_all, marks_count, fresh-once, clean, has-clean}
 use Rattle.walk.proofs.Subtree.{Sub, crown, flat, rows_of, pairs_of, nums_of, Flagged, Each, Filled, Held, HeldTree, Fresh}
 use Rattle.walk.proofs.Towers.{tops, each_left, each_right, Wide, tree_one, rows_held, root_rows, numbers_rows, pairs_rows}
-use Rattle.walk.specs.Walks.{lastly, zeros, place, walk}
+use Rattle.walk.specs.Walks.{lastly, zeros, place}
 use Rattle.walk.proofs.WalkLaws.{span, lower_some, span_pad, pad-zeros, inner_does}
 use Rattle.walk.proofs.WalkExact.{store, Ranged, walk_does, meets_does, low_of, fresh_left, fresh_right, marks_append}
-use Rattle.sound.specs.Checks.{levels, wide, fine, tree_walk, trees, free_walk, all_marked, framed, stacked, filled, checked}
+use Rattle.sound.specs.Checks.{levels, wide, tree_walk, trees, free_walk, all_marked, framed, stacked, filled, checked}
 use Rattle.sound.proofs.CheckLaws.{rising_climbs, Parts, parts, trees-held, nodes_part, total-reverse}
 use Rattle.sound.proofs.CheckYes.{all_small, marked_does}
 use Rattle.forest.proofs.RowLaws.{length-line}
@@ -145,7 +145,7 @@ module _ (ws : List ℕ) (T N m : ℕ) where
   pub record TreeDoes (x : Tree) : Type 0 where
     pub us : List ℕ
     pub numbered : (w : ℕ → ℕ) → total w (numbers x) ≡ total w us
-    pub does : (ms : List ℕ) → length us < 1365 → Each InN us → Fresh ms us → ((tree_walk ws T N m (root x) ms).ok ≡ true) × ((tree_walk ws T N m (root x) ms).marks ≡ mark_all ms us)
+    pub does : (ms : List ℕ) → length us < 1365 → Each InN us → Fresh ms us → tree_walk ws T N m (root x) ms ≡ Some (mark_all ms us)
 
   sub_does : (h : ℕ) (t : Sub h) → Filled m 7 h true t → Wide h (t ∷ []) → Held st h t → Rising (pairs_of h t) → TreeDoes (rows_of h (t ∷ []) [])
   unfolding tree_walk
@@ -157,9 +157,7 @@ module _ (ws : List ℕ) (T N m : ℕ) where
         let z : root (rows_of h (t ∷ []) []) ≡ (crown h t).num = root_rows h (t ∷ []) [] in
         let q : (crown h t).num ≡ 0 → ⊥ = λ e. first-in h t r e in
         let x = walk_does ws T N m h true t ms 0 (record { ranged = r; fresh = f; rising = rising_climbs (pairs_of h t) s; filled = i; held = d }) in
-        let y : tree_walk ws T N m (root (rows_of h (t ∷ []) [])) ms ≡ walk ws T N m h true (crown h t).num ms 0 =
-        rw (z, ne_eqb (crown h t).num 0 q, levels_are 5 h true t (few_levels m h t i w l) r i d, wide_is h t i d w) in
-        (ap (λ (v : Walked). v.ok) (y ∙ x), ap (λ (v : Walked). v.marks) (y ∙ x));
+        rw (z, ne_eqb (crown h t).num 0 q, levels_are 5 h true t (few_levels m h t i w l) r i d, wide_is h t i d w, x);
   }
     where
       first-in : (h : ℕ) (t : Sub h) → Each InN (nums_of h t) → (crown h t).num ≡ 0 → ⊥
@@ -168,7 +166,7 @@ module _ (ws : List ℕ) (T N m : ℕ) where
 
   tree_does : (x : Tree) → Good m 7 x → HeldTree st x → TreeDoes x
   unfolding tree_walk
-  tree_does [] g d = record { us = []; numbered = λ w. refl; does = λ ms l r f. (refl, refl) }
+  tree_does [] g d = record { us = []; numbered = λ w. refl; does = λ ms l r f. refl }
   tree_does (L ∷ Rs) g d =
       let o = tree_one m 7 L Rs g in
       let e = o.same in
@@ -180,21 +178,21 @@ module _ (ws : List ℕ) (T N m : ℕ) where
   pub record TreesDoes (xs : List Tree) : Type 0 where
     pub us : List ℕ
     pub numbered : (w : ℕ → ℕ) → total w (used xs) ≡ total w us
-    pub does : (r i : ℕ) (ms : List ℕ) → length us < 1365 → Each InN us → Fresh ms us → span ws i r ≡ map root xs → trees ws T N m r i ms ≡ fine (mark_all ms us)
+    pub does : (r i : ℕ) (ms : List ℕ) → length us < 1365 → Each InN us → Fresh ms us → span ws i r ≡ map root xs → trees ws T N m r i ms ≡ Some (mark_all ms us)
 
-  trees_none : (r i : ℕ) (ms : List ℕ) → span ws i r ≡ [] → trees ws T N m r i ms ≡ fine ms
+  trees_none : (r i : ℕ) (ms : List ℕ) → span ws i r ≡ [] → trees ws T N m r i ms ≡ Some ms
   trees_none zero i ms e = refl
   trees_none (suc r) i ms e = absurd (omega (arith, ap length e))
 
   trees-more : (x : Tree) (xs : List Tree) (us vs : List ℕ) (r i : ℕ) (ms : List ℕ) → span ws i r ≡ root x ∷ map root xs →
-      ((tree_walk ws T N m (root x) ms).ok ≡ true) × ((tree_walk ws T N m (root x) ms).marks ≡ mark_all ms us) →
-      ((r i : ℕ) → span ws i r ≡ map root xs → trees ws T N m r i (mark_all ms us) ≡ fine (mark_all (mark_all ms us) vs)) →
-      trees ws T N m r i ms ≡ fine (mark_all ms (us ++ vs))
+      tree_walk ws T N m (root x) ms ≡ Some (mark_all ms us) →
+      ((r i : ℕ) → span ws i r ≡ map root xs → trees ws T N m r i (mark_all ms us) ≡ Some (mark_all (mark_all ms us) vs)) →
+      trees ws T N m r i ms ≡ Some (mark_all ms (us ++ vs))
   trees-more x xs us vs zero i ms e a b = absurd (omega (arith, ap length e))
   trees-more x xs us vs (suc r) i ms e a b =
       let p : get_or ws i 0 ≡ root x = cc in
       let q : span ws (suc i) r ≡ map root xs = cc in
-      rw (p, a.0, a.1) (b r (suc i) q ∙ rw (marks_append ms us vs))
+      rw (p, a) (b r (suc i) q ∙ rw (marks_append ms us vs))
 
   pub trees_do : (xs : List Tree) → AllGood m xs → Each (HeldTree st) xs → TreesDoes xs
   trees_do [] g d = record { us = []; numbered = λ w. refl; does = λ r i ms l n f e. trees_none r i ms e }
@@ -211,7 +209,7 @@ module _ (ws : List ℕ) (T N m : ℕ) where
       }
 
   -- the free numbers
-  pub frees_do : (us : List ℕ) (r i : ℕ) (ms : List ℕ) → Each InN us → Fresh ms us → Each (λ n. st n ≡ pad 16 []) us → span ws i r ≡ us → free_walk ws T N r i ms ≡ fine (mark_all ms us)
+  pub frees_do : (us : List ℕ) (r i : ℕ) (ms : List ℕ) → Each InN us → Fresh ms us → Each (λ n. st n ≡ pad 16 []) us → span ws i r ≡ us → free_walk ws T N r i ms ≡ Some (mark_all ms us)
   frees_do [] zero i ms n f z e = refl
   frees_do [] (suc r) i ms n f z e = absurd (omega (arith, ap length e))
   frees_do (u ∷ us) zero i ms n f z e = absurd (omega (arith, ap length e))
@@ -297,9 +295,9 @@ module _ (ws : List ℕ) (T N m : ℕ) where
     filled_is : filled ws m T N ≡ true
     unfolding filled stacked
     filled_is =
-        let x : trees ws T N m T 1 clean ≡ fine (mark_all clean us) =
+        let x : trees ws T N m T 1 clean ≡ Some (mark_all clean us) =
         the-trees.does T 1 clean (omega (arith, number, length-append us vs)) (each_left InN us vs ranged) (fresh_left clean us vs fresh) p.roots_same in
-        let y : free_walk ws T N (length free) S (mark_all clean us) ≡ fine (mark_all (mark_all clean us) vs) =
+        let y : free_walk ws T N (length free) S (mark_all clean us) ≡ Some (mark_all (mark_all clean us) vs) =
         frees_do vs (length free) S (mark_all clean us) (each_right InN us vs ranged) (fresh_right clean us vs fresh)
         (blank vs (λ k. omega (arith, total-reverse (λ z. once (eqb k z)) free)) (each_right InN us vs ranged)) stack_is.0 in
         rw (x, p.f_same, y, stack_is.1, ← (marks_append clean us vs)) full

@@ -1,4 +1,7 @@
 -- Laws that the proofs of the check cite
+use Rattle.std.proofs.Common.{Some, None}
+use Rattle.std.proofs.lemmas.Option.{cond_some}
+use Rattle.std.specs.List.{list_all, range_with_len}
 use Rattle.forest.specs.Sizes.{leaf_least}
 use mathlib.Core.Path.{◌≡◌, refl, sym, ap, ◌∙◌}
 use mathlib.Core.List.{List}
@@ -7,140 +10,135 @@ use Prim.Native.Nat.{ℕ, zero, suc, ◌+◌, ◌-◌, ◌*◌, ◌≤◌, ◌<�
 use native.Mathlib.Omega.{arith}
 use lib.ListN.{length, get_or, replicate, get_or-eq_default}
 use lib.Dec.{leb}
-use borrow.Author.Tests.{eq-eqb, ne_eqb, le-leb, lt-leb}
+use borrow.Author.Tests.{eq-eqb, ne_eqb, le-leb, lt-leb, leb-true}
 use Rattle.forest.proofs.ListLaws.{is, isnt, test}
 use Rattle.walk.specs.declared.Walked.{Walked}
-use Rattle.walk.specs.Marks.{has, mark}
-use Rattle.walk.specs.Walks.{zeros, bad, place, meets, walk}
-use Rattle.sound.specs.Checks.{levels, wide, fine, tree_walk, trees, free_walk, all_marked, framed, stacked, filled, checked}
+use Rattle.walk.specs.Marks.{has, newly}
+use Rattle.walk.specs.Walks.{zeros, place, place_of, meets, walk}
+use Rattle.walk.proofs.Laws.{not_there, Met, met}
+use Rattle.sound.specs.Checks.{levels, wide, tree_walk, trees, free_walk, all_marked, framed, stacked, filled, checked}
 use Rattle.sound.specs.Exact.{Exact}
 use Rattle.sound.proofs.CheckYes.{check_yes}
 use Rattle.sound.proofs.CheckDoes.{check_does}
 
--- the way down
+-- the way down: b is where the words of node n start
 module _ (ws : List ℕ) (T N : ℕ) where
-  pub levels_none : (f n : ℕ) → n ≡ 0 → levels ws T N f n ≡ 0
+  pub levels_none : (f n : ℕ) → None ≡ place_of T N n → levels ws T N f n ≡ 0
   levels_none zero n e = refl
-  levels_none (suc f) n e = rw (lt-leb 1 n (omega arith))
+  levels_none (suc f) n e = elim (test (leb 1 n && leb n N)) [
+    | is g ↦ let h : Some (place T n) ≡ None = sym (rw g) ∙ sym e in cc
+    | isnt g ↦ rw g
+  ]
 
-  pub levels_out : (f n : ℕ) → N < n → levels ws T N f n ≡ 0
-  levels_out zero n e = refl
-  levels_out (suc f) n e = rw (le-leb 1 n (omega arith), lt-leb n N e)
+  module _ (n b : ℕ) (p : Some b ≡ place_of T N n) where
+    there : (leb 1 n && leb n N ≡ true) × (place T n ≡ b)
+    there = cond_some (leb 1 n && leb n N) (place T n) b (sym p)
 
-  pub levels_leaf : (f n : ℕ) → 32 ≤ get_or ws (place T n) 0 → levels ws T N f n ≡ 0
-  levels_leaf zero n e = refl
-  levels_leaf (suc f) n e = elim (test (leb 1 n && leb n N)) [ is g ↦ rw (g, le-leb 32 (get_or ws (place T n) 0) e) | isnt g ↦ rw g ]
+    pub levels_leaf : (f : ℕ) → 32 ≤ get_or ws b 0 → levels ws T N f n ≡ 0
+    levels_leaf zero e = refl
+    levels_leaf (suc f) e = rw (there.0, there.1, le-leb 32 (get_or ws b 0) e)
 
-  pub levels_on : (h n : ℕ) → h < 5 → (n ≡ 0 → ⊥) → n ≤ N → get_or ws (place T n) 0 < 32 →
-      levels ws T N (5 - h) n ≡ suc (levels ws T N (5 - (h + 1)) (get_or ws (place T n + 8) 0))
-  levels_on h n l a b w =
-      let d : 5 - h ≡ suc (5 - (h + 1)) = omega arith in
-      rw (d, le-leb 1 n (omega arith), le-leb n N b, lt-leb 32 (get_or ws (place T n) 0) w)
+    pub levels_on : (h : ℕ) → h < 5 → get_or ws b 0 < 32 → levels ws T N (5 - h) n ≡ suc (levels ws T N (5 - (h + 1)) (get_or ws (b + 8) 0))
+    levels_on h l w =
+        let d : 5 - h ≡ suc (5 - (h + 1)) = omega arith in
+        rw (d, there.0, there.1, lt-leb 32 (get_or ws b 0) w)
 
-  -- a tree
-  module _ (n : ℕ) (ms : List ℕ) where
-    pub tree_none : n ≡ 0 → fine ms ≡ tree_walk ws T N leaf_least n ms
+-- a tree
+module _ (ws : List ℕ) (T N n : ℕ) (ms : List ℕ) where
+  pub tree_none : n ≡ 0 → tree_walk ws T N leaf_least n ms ≡ Some ms
+  unfolding tree_walk
+  tree_none e = rw (eq-eqb n 0 e)
+
+  module _ (a : n ≡ 0 → ⊥) where
+    pub tree_out : None ≡ place_of T N n → tree_walk ws T N leaf_least n ms ≡ None
     unfolding tree_walk
-    tree_none e = rw (eq-eqb n 0 e)
+    tree_out p = rw (ne_eqb n 0 a, levels_none ws T N 5 n p, not_there T N n ms p)
 
-    pub tree_out : (x : Walked) → N < n → meets N ms n ≡ false → x ≡ bad → x ≡ tree_walk ws T N leaf_least n ms
-    unfolding tree_walk
-    tree_out x h m d =
-        let l = levels_out 5 n h in
-        d ∙ rw (ne_eqb n 0 (omega arith), levels_out 5 n h, m)
+    -- h levels of inner nodes; b is where the root's words start
+    module _ (h b : ℕ) (p : Some b ≡ place_of T N n) (e : h ≡ levels ws T N 5 n) where
+      pub tree_narrow : wide h (get_or ws b 0) ≡ false → tree_walk ws T N leaf_least n ms ≡ None
+      unfolding tree_walk
+      tree_narrow w = rw (ne_eqb n 0 a, ← e, (there ws T N n b p).1, w)
 
-    pub tree_narrow : (x : Walked) (h : ℕ) → (n ≡ 0 → ⊥) → h ≡ levels ws T N 5 n → wide h (get_or ws (place T n) 0) ≡ false → x ≡ bad → x ≡ tree_walk ws T N leaf_least n ms
-    unfolding tree_walk
-    tree_narrow x h a e w d = d ∙ rw (ne_eqb n 0 a, ← e, w)
+      module _ (w : wide h (get_or ws b 0) ≡ true) where
+        pub tree_no : None ≡ walk ws T N leaf_least h true n ms 0 → tree_walk ws T N leaf_least n ms ≡ None
+        unfolding tree_walk
+        tree_no d = rw (ne_eqb n 0 a, ← e, (there ws T N n b p).1, w, ← d)
 
-    pub tree_wide : (x : Walked) (h : ℕ) → (n ≡ 0 → ⊥) → h ≡ levels ws T N 5 n → wide h (get_or ws (place T n) 0) ≡ true → x ≡ walk ws T N leaf_least h true n ms 0 → x ≡ tree_walk ws T N leaf_least n ms
-    unfolding tree_walk
-    tree_wide x h a e w d = d ∙ rw (ne_eqb n 0 a, ← e, w)
+        pub tree_yes : (x : Walked) → Some x ≡ walk ws T N leaf_least h true n ms 0 → tree_walk ws T N leaf_least n ms ≡ Some x.marks
+        unfolding tree_walk
+        tree_yes x d = rw (ne_eqb n 0 a, ← e, (there ws T N n b p).1, w, ← d)
 
-pub wide_high : (h w : ℕ) → (h ≡ 0 → ⊥) → leb 17 w ≡ wide h w
-wide_high zero w z = absurd (z refl)
-wide_high (suc h) w z = refl
-
--- the loops, from the i-th turn on
+-- the loops, from the i-th turn on: n is the word that is read
 module _ (ws : List ℕ) (T N r i : ℕ) (ms : List ℕ) where
-  pub trees_no : i < r → (x : Walked) → x ≡ tree_walk ws T N leaf_least (get_or ws (1 + i) 0) ms → x.ok ≡ false → bad ≡ trees ws T N leaf_least (r - i) (1 + i) ms
-  trees_no h x e o =
-      let d : r - i ≡ suc (r - (i + 1)) = omega arith in
-      let v : (tree_walk ws T N leaf_least (get_or ws (1 + i) 0) ms).ok ≡ false = ap (λ (u : Walked). u.ok) (sym e) ∙ o in
-      rw (d, v)
+  one_more : i < r → r - i ≡ suc (r - (i + 1))
+  one_more h = omega arith
 
-  pub trees_on : i < r → (x : Walked) → x ≡ tree_walk ws T N leaf_least (get_or ws (1 + i) 0) ms → x.ok ≡ true →
-      trees ws T N leaf_least (r - i) (1 + i) ms ≡ trees ws T N leaf_least (r - (i + 1)) (1 + (i + 1)) x.marks
-  trees_on h x e o =
-      let d : r - i ≡ suc (r - (i + 1)) = omega arith in
-      let a : 1 + (i + 1) ≡ suc (1 + i) = omega arith in
-      let v : (tree_walk ws T N leaf_least (get_or ws (1 + i) 0) ms).ok ≡ true = ap (λ (u : Walked). u.ok) (sym e) ∙ o in
-      rw (d, v, a) (ap (λ (u : Walked). trees ws T N leaf_least (r - (i + 1)) (suc (1 + i)) u.marks) (sym e))
-
-  pub trees_end : r ≤ i → trees ws T N leaf_least (r - i) (1 + i) ms ≡ fine ms
+  pub trees_end : r ≤ i → trees ws T N leaf_least (r - i) (1 + i) ms ≡ Some ms
   trees_end h = let d : r - i ≡ 0 = omega arith in rw d
 
-  module _ (s : ℕ) where
-    abbrev n : ℕ
-    n = get_or ws (s + i) 0
+  pub frees_end : (s : ℕ) → r ≤ i → free_walk ws T N (r - i) (s + i) ms ≡ Some ms
+  frees_end s h = let d : r - i ≡ 0 = omega arith in rw d
 
-    pub frees_no : i < r → meets N ms n ≡ false → bad ≡ free_walk ws T N (r - i) (s + i) ms
-    frees_no h m = let d : r - i ≡ suc (r - (i + 1)) = omega arith in rw (d, m)
+  module _ (h : i < r) (n : ℕ) where
+    pub trees_no : n ≡ get_or ws (1 + i) 0 → None ≡ tree_walk ws T N leaf_least n ms → trees ws T N leaf_least (r - i) (1 + i) ms ≡ None
+    trees_no g e = rw (one_more h, ← g, ← e)
 
-    pub frees-full : i < r → meets N ms n ≡ true → zeros ws (place T n) 16 ≡ false → bad ≡ free_walk ws T N (r - i) (s + i) ms
-    frees-full h m z = let d : r - i ≡ suc (r - (i + 1)) = omega arith in rw (d, m, z)
+    pub trees_on : n ≡ get_or ws (1 + i) 0 → (x : List ℕ) → Some x ≡ tree_walk ws T N leaf_least n ms →
+        trees ws T N leaf_least (r - i) (1 + i) ms ≡ trees ws T N leaf_least (r - (i + 1)) (1 + (i + 1)) x
+    trees_on g x e = let a : 1 + (i + 1) ≡ suc (1 + i) = omega arith in rw (one_more h, ← g, ← e, a)
 
-    pub frees_on : i < r → meets N ms n ≡ true → zeros ws (place T n) 16 ≡ true → (ns : List ℕ) → ns ≡ mark ms n →
-        free_walk ws T N (r - i) (s + i) ms ≡ free_walk ws T N (r - (i + 1)) (s + (i + 1)) ns
-    frees_on h m z ns e =
-        let d : r - i ≡ suc (r - (i + 1)) = omega arith in
-        let a : s + (i + 1) ≡ suc (s + i) = omega arith in
-        rw (d, m, z, a, e)
+    module _ (s : ℕ) (g : n ≡ get_or ws (s + i) 0) where
+      pub frees_no : meets N ms n ≡ false → free_walk ws T N (r - i) (s + i) ms ≡ None
+      frees_no m = rw (one_more h, ← g, m)
 
-    pub frees_end : r ≤ i → free_walk ws T N (r - i) (s + i) ms ≡ fine ms
-    frees_end h = let d : r - i ≡ 0 = omega arith in rw d
+      module _ (b : ℕ) (x : List ℕ) (p : Some b ≡ place_of T N n) (q : Some x ≡ newly ms n) where
+        may : Met T N n ms b x
+        may = met T N n ms b x p q
 
-pub frees_start : (ws : List ℕ) (T N r s : ℕ) (ms : List ℕ) → free_walk ws T N (r - 0) (s + 0) ms ≡ free_walk ws T N r s ms
-frees_start ws T N r s ms = let a : r - 0 ≡ r = omega arith in let b : s + 0 ≡ s = omega arith in rw (a, b)
+        pub frees-full : zeros ws b 16 ≡ false → free_walk ws T N (r - i) (s + i) ms ≡ None
+        frees-full z = rw (one_more h, ← g, may.may, may.there, z)
 
-pub trees_start : (ws : List ℕ) (T N r : ℕ) (ms : List ℕ) → trees ws T N leaf_least (r - 0) (1 + 0) ms ≡ trees ws T N leaf_least r 1 ms
-trees_start ws T N r ms = let a : r - 0 ≡ r = omega arith in rw a
+        pub frees_on : zeros ws b 16 ≡ true → free_walk ws T N (r - i) (s + i) ms ≡ free_walk ws T N (r - (i + 1)) (s + (i + 1)) x
+        frees_on z = let a : s + (i + 1) ≡ suc (s + i) = omega arith in rw (one_more h, ← g, may.may, may.there, z, may.marks, a)
 
-module _ (ms : List ℕ) where
-  pub all_no : (k : ℕ) → 0 < k → has ms k ≡ false → all_marked ms k ≡ false
-  all_no zero h e = absurd (omega arith)
-  all_no (suc k) h e = rw e
+-- the numbers 1 to n, one by one
+and_swap : (x y z : Bool) → x && (y && z) ≡ y && (x && z)
+and_swap true true z = refl
+and_swap true false z = refl
+and_swap false true z = refl
+and_swap false false z = refl
 
-  pub all_on : (k : ℕ) → 0 < k → has ms k ≡ true → all_marked ms k ≡ all_marked ms (k - 1)
-  all_on zero h e = absurd (omega arith)
-  all_on (suc k) h e = let d : suc k - 1 ≡ k = omega arith in rw (e, d)
+all_more : (p : ℕ → Bool) (a n : ℕ) → list_all p (range_with_len a (suc n)) ≡ p (a + n) && list_all p (range_with_len a n)
+all_more p a zero = let e : a + 0 ≡ a = omega arith in rw e
+all_more p a (suc n) =
+    let e : a + suc n ≡ a + 1 + n = omega arith in
+    rw e (ap (p a &&◌) (all_more p (a + 1) n) ∙ and_swap (p a) (p (a + 1 + n)) (list_all p (range_with_len (a + 1) n)))
 
-  pub all_end : (k : ℕ) → k ≤ 0 → all_marked ms k ≡ true
-  all_end zero h = refl
-  all_end (suc k) h = absurd (omega arith)
+pub all-marked : (ms : List ℕ) (n : ℕ) → list_all (has ms) (range_with_len 1 n) ≡ all_marked ms n
+all-marked ms zero = refl
+all-marked ms (suc n) =
+    let e : 1 + n ≡ suc n = omega arith in
+    all_more (has ms) 1 n ∙ rw (e, all-marked ms n)
 
 -- the stack and the whole
-module _ (ws : List ℕ) (T N F : ℕ) (ms : List ℕ) (y : Walked) (e : y ≡ free_walk ws T N F (T + 3 + 16 * N) ms) where
-  pub stack_no : y.ok ≡ false → false ≡ stacked ws T N F ms
+module _ (ws : List ℕ) (T N F : ℕ) (ms : List ℕ) where
+  pub stack_no : None ≡ free_walk ws T N F (T + 3 + 16 * N) ms → stacked ws T N F ms ≡ false
   unfolding stacked
-  stack_no o = let v : (free_walk ws T N F (T + 3 + 16 * N) ms).ok ≡ false = ap (λ (u : Walked). u.ok) (sym e) ∙ o in rw v
+  stack_no e = rw (← e)
 
-  pub stack_yes : (z a r : Bool) → y.ok ≡ true → z ≡ zeros ws (T + 3 + 16 * N + F) (N - F) → z && all_marked y.marks N ≡ r → r ≡ stacked ws T N F ms
+  pub stack_yes : (x : List ℕ) → Some x ≡ free_walk ws T N F (T + 3 + 16 * N) ms → stacked ws T N F ms ≡ zeros ws (T + 3 + 16 * N + F) (N - F) && all_marked x N
   unfolding stacked
-  stack_yes z a r o q d =
-      let v : (free_walk ws T N F (T + 3 + 16 * N) ms).ok ≡ true = ap (λ (u : Walked). u.ok) (sym e) ∙ o in
-      sym d ∙ rw (v, q) (ap (λ (u : Walked). zeros ws (T + 3 + 16 * N + F) (N - F) && all_marked u.marks N) e)
+  stack_yes x e = rw (← e)
 
-module _ (ws : List ℕ) (T N : ℕ) (x : Walked) (e : x ≡ trees ws T N leaf_least T 1 (replicate 8 0)) where
-  pub pool_no : x.ok ≡ false → false ≡ filled ws leaf_least T N
+module _ (ws : List ℕ) (T N : ℕ) where
+  pub pool_no : None ≡ trees ws T N leaf_least T 1 (replicate 8 0) → filled ws leaf_least T N ≡ false
   unfolding filled
-  pool_no o = let v : (trees ws T N leaf_least T 1 (replicate 8 0)).ok ≡ false = ap (λ (u : Walked). u.ok) (sym e) ∙ o in rw v
+  pool_no e = rw (← e)
 
-  pub pool_yes : (F : ℕ) (r : Bool) → x.ok ≡ true → get_or ws (T + 2 + 16 * N) 0 ≡ F → r ≡ stacked ws T N F x.marks → r ≡ filled ws leaf_least T N
+  pub pool_yes : (F : ℕ) (x : List ℕ) → Some x ≡ trees ws T N leaf_least T 1 (replicate 8 0) → get_or ws (T + 2 + 16 * N) 0 ≡ F → filled ws leaf_least T N ≡ stacked ws T N F x
   unfolding filled
-  pool_yes F r o f d =
-      let v : (trees ws T N leaf_least T 1 (replicate 8 0)).ok ≡ true = ap (λ (u : Walked). u.ok) (sym e) ∙ o in
-      d ∙ rw (v, f) (ap (λ (u : Walked). stacked ws T N F u.marks) e)
+  pool_yes F x e f = rw (← e, f)
 
 -- the frame
 module _ (ws : List ℕ) where
@@ -161,37 +159,38 @@ module _ (ws : List ℕ) where
   unfolding checked
   checked_yes r f d = d ∙ rw f
 
-  pub frame_trees : T ≡ 0 → framed ws T N ≡ false
+  pub frame_trees : (1 ≤ T → T ≤ 32 → ⊥) → framed ws T N ≡ false
   unfolding framed
-  frame_trees e = rw (lt-leb 1 T (omega arith))
+  frame_trees f = elim (test (leb 1 T)) [
+    | isnt a ↦ rw a
+    | is a ↦ elim (test (leb T 32)) [
+      | isnt b ↦ rw (a, b)
+      | is b ↦ absurd (f (leb-true 1 T a) (leb-true T 32 b))
+    ]
+  ]
 
   pub frame_none : length ws ≡ 0 → framed ws T N ≡ false
-  frame_none e = frame_trees (get_or-eq_default ws 0 (omega arith))
+  frame_none e = let z : T ≡ 0 = get_or-eq_default ws 0 (omega arith) in frame_trees (λ a b. omega arith)
 
-  module _ (a : T ≡ 0 → ⊥) where
-    pub frame_many : 32 < T → framed ws T N ≡ false
+  module _ (a : 1 ≤ T) (b : T ≤ 32) where
+    pub frame_long : (length ws ≡ T + 17 * N + 3 → ⊥) → framed ws T N ≡ false
     unfolding framed
-    frame_many h = rw (le-leb 1 T (omega arith), lt-leb T 32 h)
+    frame_long h = elim (test (leb N 512)) [
+      | is g ↦ rw (le-leb 1 T a, le-leb T 32 b, g, ne_eqb (length ws) (T + 17 * N + 3) h)
+      | isnt g ↦ rw (le-leb 1 T a, le-leb T 32 b, g)
+    ]
 
-    module _ (b : T ≤ 32) where
-      pub frame_long : (length ws ≡ T + 17 * N + 3 → ⊥) → framed ws T N ≡ false
-      unfolding framed
-      frame_long h = elim (test (leb N 512)) [
-        | is g ↦ rw (le-leb 1 T (omega arith), le-leb T 32 b, g, ne_eqb (length ws) (T + 17 * N + 3) h)
-        | isnt g ↦ rw (le-leb 1 T (omega arith), le-leb T 32 b, g)
-      ]
+    pub frame_nodes : 512 < N → framed ws T N ≡ false
+    unfolding framed
+    frame_nodes h = rw (le-leb 1 T a, le-leb T 32 b, lt-leb N 512 h)
 
-      pub frame_nodes : 512 < N → framed ws T N ≡ false
-      unfolding framed
-      frame_nodes h = rw (le-leb 1 T (omega arith), le-leb T 32 b, lt-leb N 512 h)
+    pub frame_free : N ≤ 512 → length ws ≡ T + 17 * N + 3 → N < F → framed ws T N ≡ false
+    unfolding framed
+    frame_free n l h = rw (le-leb 1 T a, le-leb T 32 b, le-leb N 512 n, eq-eqb (length ws) (T + 17 * N + 3) l, lt-leb F N h)
 
-      pub frame_free : N ≤ 512 → length ws ≡ T + 17 * N + 3 → N < F → framed ws T N ≡ false
-      unfolding framed
-      frame_free n l h = rw (le-leb 1 T (omega arith), le-leb T 32 b, le-leb N 512 n, eq-eqb (length ws) (T + 17 * N + 3) l, lt-leb F N h)
-
-      pub frame_ok : N ≤ 512 → length ws ≡ T + 17 * N + 3 → F ≤ N → framed ws T N ≡ true
-      unfolding framed
-      frame_ok n l h = rw (le-leb 1 T (omega arith), le-leb T 32 b, le-leb N 512 n, eq-eqb (length ws) (T + 17 * N + 3) l, le-leb F N h)
+    pub frame_ok : N ≤ 512 → length ws ≡ T + 17 * N + 3 → F ≤ N → framed ws T N ≡ true
+    unfolding framed
+    frame_ok n l h = rw (le-leb 1 T a, le-leb T 32 b, le-leb N 512 n, eq-eqb (length ws) (T + 17 * N + 3) l, le-leb F N h)
 
 pub exact : (ws : List ℕ) (r : Bool) → r ≡ checked ws leaf_least → Exact leaf_least ws r
 exact ws r e = record { yes = λ p. check_yes ws leaf_least (sym e ∙ p); every = λ s. e ∙ check_does ws leaf_least s }

@@ -1,7 +1,7 @@
 -- PROOFS. Where the check says yes the words are those of a well formed pool
 use mathlib.Core.Path.{◌≡◌, refl, sym, ap, ◌∙◌, subst}
 use mathlib.Core.List.{List, [], ◌∷◌, ◌++◌, append-nil, map, reverse, reverse-reverse}
-use mathlib.Core.Bool.{true, cond, true≢false, ◌&&◌}
+use mathlib.Core.Bool.{Bool, true, false, cond, true≢false, ◌&&◌}
 use Prim.Native.Nat.{ℕ, zero, suc, ◌+◌, ◌-◌, ◌*◌, ◌≤◌}
 use native.Mathlib.Omega.{arith}
 use lib.ListN.{length, get_or, length-append, length-map, length-reverse}
@@ -13,16 +13,24 @@ use Rattle.forest.specs.Trees.{numbers}
 use Rattle.forest.specs.Pools.{Pool, WellFormed, AllGood, used, root, node_words, nodes_from, encode, Sound}
 use Rattle.forest.proofs.ListLaws.{is, isnt, test, both, four, total-append}
 use Rattle.walk.specs.declared.Walked.{Walked}
+use Rattle.std.specs.Option.{option_map_or}
+use Rattle.std.proofs.Common.{Option, Some, None, option_map}
+use Rattle.std.proofs.lemmas.Option.{none-some, option_and_then_some}
 use Rattle.walk.specs.Marks.{has, mark}
 use Rattle.walk.proofs.MarkLaws.{mark_all, Small, marks_count, clean, has-clean}
 use Rattle.walk.proofs.Subtree.{flat, rows_of, pairs_of, nums_of, Each, HeldTree, Fresh}
 use Rattle.walk.proofs.Towers.{each_join, Wide, one_good, held_rows, root_rows, numbers_rows}
 use Rattle.walk.specs.Walks.{zeros, place, meets, others, walk}
 use Rattle.walk.proofs.WalkLaws.{span, length_span, zeros-pad, pad_span, length-items}
-use Rattle.walk.proofs.WalkExact.{store, Ranged, sub, num_sub, subs, length_subs, walk_yes, meets_yes, fresh_join, marks_append}
-use Rattle.sound.specs.Checks.{levels, wide, fine, tree_walk, trees, free_walk, all_marked, framed, stacked, filled, checked}
+use Rattle.walk.proofs.WalkExact.{store, Ranged, sub, num_sub, subs, length_subs, walk_yes, meets_yes, fresh_join, marks_append, cond_bad}
+use Rattle.sound.specs.Checks.{levels, wide, tree_walk, trees, free_walk, all_marked, framed, stacked, filled, checked}
 use Rattle.sound.proofs.CheckLaws.{climbs_rising, layout, trees_find, nodes_join, total-reverse}
 use Rattle.forest.proofs.WordLaws.{count-append}
+
+-- a test of what is there says yes
+pub answered : {A P : Type 0} (f : A → Bool) (o : Option A) → option_map_or f o false ≡ true → ((x : A) → o ≡ Some x → f x ≡ true → P) → P
+answered f None e g = absurd (true≢false (sym e))
+answered f (Some x) e g = g x refl e
 
 -- Lists of numbers
 pub each_at : (P : ℕ → Type 0) (n : ℕ) (ns : List ℕ) → Each P ns → 1 ≤ count n ns → P n
@@ -73,14 +81,14 @@ module _ (ws : List ℕ) (T N m : ℕ) where
   abbrev pub walked : ℕ → List ℕ
   walked n = cond (eqb n 0) [] (nums_of (high n) (sub ws T N m (high n) n))
 
-  pub record TreeYes (t : Tree) (us : List ℕ) (n : ℕ) (ms : List ℕ) (x : Walked) : Type 0 where
+  pub record TreeYes (t : Tree) (us : List ℕ) (n : ℕ) (ms x : List ℕ) : Type 0 where
     pub good : Good m 7 t
     pub held : HeldTree st t
     pub rooted : root t ≡ n
     pub numbered : (w : ℕ → ℕ) → total w (numbers t) ≡ total w us
     pub ranged : Each InN us
     pub fresh : Fresh ms us
-    pub out : x.marks ≡ mark_all ms us
+    pub out : x ≡ mark_all ms us
 
   wide-sub : (h n : ℕ) → wide h (get_or ws (place T n) 0) ≡ true → Wide h (sub ws T N m h n ∷ [])
   wide-sub zero n w = tt
@@ -93,10 +101,10 @@ module _ (ws : List ℕ) (T N m : ℕ) where
         length-items ws (place T n + 1) (place T n + 9) (get_or ws (place T n) 0 - 16),
       ))
 
-  walked_yes : (h n : ℕ) (ms : List ℕ) → wide h (get_or ws (place T n) 0) ≡ true → (walk ws T N m h true n ms 0).ok ≡ true →
-      TreeYes (rows_of h (sub ws T N m h n ∷ []) []) (nums_of h (sub ws T N m h n)) n ms (walk ws T N m h true n ms 0)
-  walked_yes h n ms w r =
-      let y = walk_yes ws T N m h true n ms 0 r in
+  walked_yes : (h n : ℕ) (ms : List ℕ) (x : Walked) → wide h (get_or ws (place T n) 0) ≡ true → walk ws T N m h true n ms 0 ≡ Some x →
+      TreeYes (rows_of h (sub ws T N m h n ∷ []) []) (nums_of h (sub ws T N m h n)) n ms x.marks
+  walked_yes h n ms x w r =
+      let y = walk_yes ws T N m h true n ms 0 x r in
       let t = sub ws T N m h n in
       record {
         good = one_good m 7 h t y.fit.filled (wide-sub h n w) (climbs_rising 0 (pairs_of h t) y.fit.rising);
@@ -108,34 +116,41 @@ module _ (ws : List ℕ) (T N m : ℕ) where
         out = ap (λ (x : Walked). x.marks) y.out;
       }
 
-  tree_yes : (n : ℕ) (ms : List ℕ) → (tree_walk ws T N m n ms).ok ≡ true → TreeYes (tree_of n) (walked n) n ms (tree_walk ws T N m n ms)
+  tree_yes : (n : ℕ) (ms x : List ℕ) → tree_walk ws T N m n ms ≡ Some x → TreeYes (tree_of n) (walked n) n ms x
   unfolding tree_walk
-  tree_yes n ms r = elim (test (eqb n 0)) [
-    | is e ↦ simp e (record {
-      good = tt;
-      held = tt;
-      rooted = sym (eqb-true n 0 e);
-      numbered = λ w. refl;
-      ranged = tt;
-      fresh = tt;
-      out = refl;
-    })
-    | isnt e ↦ elim (test (wide (high n) (get_or ws (place T n) 0))) [
-      | isnt w ↦ absurd (true≢false (sym (simp (e, w) at r)))
-      | is w ↦ simp (e, w) (walked_yes (high n) n ms w (simp (e, w) at r))
-    ]
+  tree_yes n ms x r = elim (test (eqb n 0)) [
+    | is e ↦
+        let o : Some ms ≡ Some x = simp e at r in
+        simp e (record {
+          good = tt;
+          held = tt;
+          rooted = sym (eqb-true n 0 e);
+          numbered = λ w. refl;
+          ranged = tt;
+          fresh = tt;
+          out = cc;
+        })
+    | isnt e ↦
+        let c = cond_bad (wide (high n) (get_or ws (place T n) 0)) _ x (simp e at r) in
+        simp e (mapped (walk ws T N m (high n) true n ms 0) x c.1 (λ y w. walked_yes (high n) n ms y c.0 w))
   ]
+    where
+      mapped : (o : Option Walked) (x : List ℕ) → option_map (λ y. y.marks) o ≡ Some x →
+          ((y : Walked) → o ≡ Some y → TreeYes (rows_of (high n) (sub ws T N m (high n) n ∷ []) []) (nums_of (high n) (sub ws T N m (high n) n)) n ms y.marks) →
+          TreeYes (rows_of (high n) (sub ws T N m (high n) n ∷ []) []) (nums_of (high n) (sub ws T N m (high n) n)) n ms x
+      mapped None x e f = absurd (none-some x e)
+      mapped (Some y) x e f = let d : y.marks ≡ x = cc in subst (TreeYes (rows_of (high n) (sub ws T N m (high n) n ∷ []) []) (nums_of (high n) (sub ws T N m (high n) n)) n ms) d (f y refl)
 
-  pub record TreesYes (ts : List Tree) (us rs ms : List ℕ) (x : Walked) : Type 0 where
+  pub record TreesYes (ts : List Tree) (us rs ms x : List ℕ) : Type 0 where
     pub good : AllGood m ts
     pub held : Each (HeldTree st) ts
     pub rooted : map root ts ≡ rs
     pub numbered : (w : ℕ → ℕ) → total w (used ts) ≡ total w us
     pub ranged : Each InN us
     pub fresh : Fresh ms us
-    pub out : x ≡ fine (mark_all ms us)
+    pub out : x ≡ mark_all ms us
 
-  trees_step : (t : Tree) (ts : List Tree) (u us : List ℕ) (n : ℕ) (rs ms : List ℕ) (x y : Walked) → TreeYes t u n ms x → TreesYes ts us rs x.marks y → TreesYes (t ∷ ts) (u ++ us) (n ∷ rs) ms y
+  trees_step : (t : Tree) (ts : List Tree) (u us : List ℕ) (n : ℕ) (rs ms x y : List ℕ) → TreeYes t u n ms x → TreesYes ts us rs x y → TreesYes (t ∷ ts) (u ++ us) (n ∷ rs) ms y
   trees_step t ts u us n rs ms x y a b = record {
     good = (a.good, b.good);
     held = (a.held, b.held);
@@ -146,36 +161,32 @@ module _ (ws : List ℕ) (T N m : ℕ) where
     out = b.out ∙ rw (a.out, marks_append ms u us);
   }
 
-  pub trees_yes : (r i : ℕ) (ms : List ℕ) → (trees ws T N m r i ms).ok ≡ true →
-      TreesYes (map tree_of (span ws i r)) (flat walked (span ws i r)) (span ws i r) ms (trees ws T N m r i ms)
-  trees_yes zero i ms r = record { good = tt; held = tt; rooted = refl; numbered = λ w. refl; ranged = tt; fresh = tt; out = refl }
-  trees_yes (suc k) i ms r = elim (test (tree_walk ws T N m (get_or ws i 0) ms).ok) [
-    | isnt e ↦ absurd (true≢false (sym (simp e at r)))
-    | is e ↦ simp e (trees_step (tree_of (get_or ws i 0)) (map tree_of (span ws (suc i) k)) (walked (get_or ws i 0)) (flat walked (span ws (suc i) k)) (get_or ws i 0) (span ws (suc i) k) ms _ _
-        (tree_yes (get_or ws i 0) ms e) (trees_yes k (suc i) (tree_walk ws T N m (get_or ws i 0) ms).marks (simp e at r)))
-  ]
+  pub trees_yes : (r i : ℕ) (ms x : List ℕ) → trees ws T N m r i ms ≡ Some x →
+      TreesYes (map tree_of (span ws i r)) (flat walked (span ws i r)) (span ws i r) ms x
+  trees_yes zero i ms x r = record { good = tt; held = tt; rooted = refl; numbered = λ w. refl; ranged = tt; fresh = tt; out = cc }
+  trees_yes (suc k) i ms x r = option_and_then_some (trees ws T N m k (suc i)) (tree_walk ws T N m (get_or ws i 0) ms) x r (λ y w s.
+      trees_step (tree_of (get_or ws i 0)) (map tree_of (span ws (suc i) k)) (walked (get_or ws i 0)) (flat walked (span ws (suc i) k)) (get_or ws i 0) (span ws (suc i) k) ms y x
+      (tree_yes (get_or ws i 0) ms y w) (trees_yes k (suc i) y x s))
 
-  pub record FreesYes (us ms : List ℕ) (x : Walked) : Type 0 where
+  pub record FreesYes (us ms x : List ℕ) : Type 0 where
     pub ranged : Each InN us
     pub fresh : Fresh ms us
     pub blank : Each (λ n. st n ≡ pad 16 []) us
-    pub out : x ≡ fine (mark_all ms us)
+    pub out : x ≡ mark_all ms us
 
-  pub frees_yes : (r i : ℕ) (ms : List ℕ) → (free_walk ws T N r i ms).ok ≡ true → FreesYes (span ws i r) ms (free_walk ws T N r i ms)
-  frees_yes zero i ms r = record { ranged = tt; fresh = tt; blank = tt; out = refl }
-  frees_yes (suc k) i ms r = elim (test (meets N ms (get_or ws i 0) && zeros ws (place T (get_or ws i 0)) 16)) [
-    | isnt e ↦ absurd (true≢false (sym (simp e at r)))
-    | is e ↦
-        let b = both (meets N ms (get_or ws i 0)) (zeros ws (place T (get_or ws i 0)) 16) e in
-        let a = meets_yes ws T N m ms (get_or ws i 0) b.0 in
-        let y = frees_yes k (suc i) (mark ms (get_or ws i 0)) (simp e at r) in
-        simp e (record {
-          ranged = ((a.0, a.1), y.ranged);
-          fresh = (a.2, y.fresh);
-          blank = (sym (zeros-pad ws 16 (place T (get_or ws i 0)) b.1), y.blank);
-          out = y.out;
-        })
-  ]
+  pub frees_yes : (r i : ℕ) (ms x : List ℕ) → free_walk ws T N r i ms ≡ Some x → FreesYes (span ws i r) ms x
+  frees_yes zero i ms x r = record { ranged = tt; fresh = tt; blank = tt; out = cc }
+  frees_yes (suc k) i ms x r =
+      let c = cond_bad (meets N ms (get_or ws i 0) && zeros ws (place T (get_or ws i 0)) 16) _ x r in
+      let b = both (meets N ms (get_or ws i 0)) (zeros ws (place T (get_or ws i 0)) 16) c.0 in
+      let a = meets_yes ws T N m ms (get_or ws i 0) b.0 in
+      let y = frees_yes k (suc i) (mark ms (get_or ws i 0)) x c.1 in
+      record {
+        ranged = ((a.0, a.1), y.ranged);
+        fresh = (a.2, y.fresh);
+        blank = (sym (zeros-pad ws 16 (place T (get_or ws i 0)) b.1), y.blank);
+        out = y.out;
+      }
 
   -- each number once
   module _ (few : N ≤ 512) (us : List ℕ) (ranged : Each InN us) (fresh : Fresh clean us) (full : all_marked (mark_all clean us) N ≡ true) where
@@ -228,30 +239,36 @@ module _ (ws : List ℕ) (T N m : ℕ) where
           few_free = leb-true F N b.3;
         }
 
-    walked-trees : TreesYes ts us (span ws 1 T) clean (trees ws T N m T 1 clean)
+    -- the marks that the trees leave
+    pub record Left : Type 0 where
+      pub yes : TreesYes ts us (span ws 1 T) clean (mark_all clean us)
+      pub behind : stacked ws T N F (mark_all clean us) ≡ true
+
+    left : Left
     unfolding filled
-    walked-trees = trees_yes T 1 clean (both (trees ws T N m T 1 clean).ok (stacked ws T N F (trees ws T N m T 1 clean).marks) filled_ok).0
+    left = answered (stacked ws T N F) (trees ws T N m T 1 clean) filled_ok (λ x w s.
+        let y = trees_yes T 1 clean x w in
+        subst (λ (l : List ℕ). TreesYes ts us (span ws 1 T) clean l × (stacked ws T N F l ≡ true) → Left) (sym y.out) (λ p. record { yes = p.0; behind = p.1 }) (y, s))
+
+    abbrev walked-trees : TreesYes ts us (span ws 1 T) clean (mark_all clean us)
+    walked-trees = left.yes
 
     pub record Rest : Type 0 where
-      pub frees_ok : FreesYes (span ws S F) (mark_all clean us) (free_walk ws T N F S (mark_all clean us))
+      pub frees_ok : FreesYes (span ws S F) (mark_all clean us) (mark_all clean (us ++ span ws S F))
       pub empty : zeros ws (S + F) (N - F) ≡ true
       pub full : all_marked (mark_all clean (us ++ span ws S F)) N ≡ true
 
     the_rest : Rest
-    unfolding filled stacked
-    the_rest =
-        let o : (trees ws T N m T 1 clean).marks ≡ mark_all clean us = ap (λ (x : Walked). x.marks) walked-trees.out in
-        let s : stacked ws T N F (mark_all clean us) ≡ true =
-        subst (λ (l : List ℕ). stacked ws T N F l ≡ true) o (both (trees ws T N m T 1 clean).ok (stacked ws T N F (trees ws T N m T 1 clean).marks) filled_ok).1 in
-        let y = free_walk ws T N F S (mark_all clean us) in
-        let a = both y.ok (zeros ws (S + F) (N - F) && all_marked y.marks N) s in
-        let b = both (zeros ws (S + F) (N - F)) (all_marked y.marks N) a.1 in
-        let f = frees_yes F S (mark_all clean us) a.0 in
+    unfolding stacked
+    the_rest = answered (λ all. zeros ws (S + F) (N - F) && all_marked all N) (free_walk ws T N F S (mark_all clean us)) left.behind (λ x w s.
+        let f = frees_yes F S (mark_all clean us) x w in
+        let o : x ≡ mark_all clean (us ++ span ws S F) = f.out ∙ sym (marks_append clean us (span ws S F)) in
+        let b = both (zeros ws (S + F) (N - F)) (all_marked x N) s in
         record {
-          frees_ok = f;
+          frees_ok = subst (FreesYes (span ws S F) (mark_all clean us)) o f;
           empty = b.0;
-          full = subst (λ (l : List ℕ). all_marked l N ≡ true) (ap (λ (x : Walked). x.marks) f.out ∙ sym (marks_append clean us (span ws S F))) b.1;
-        }
+          full = subst (λ (l : List ℕ). all_marked l N ≡ true) o b.1;
+        })
 
     each_once : (k : ℕ) → count k (used ts) + count k (reverse (span ws S F)) ≡ once (leb 1 k && leb k N)
     each_once k =

@@ -1,7 +1,7 @@
 -- PROOFS. The walk says yes exactly where the words hold a subtree, and what it hands back then
 use mathlib.Core.Path.{◌≡◌, refl, sym, ap, ◌∙◌, subst}
 use mathlib.Core.List.{List, [], ◌∷◌, ◌++◌}
-use mathlib.Core.Bool.{Bool, true, false, cond, true≢false, ◌&&◌, not}
+use mathlib.Core.Bool.{Bool, true, false, cond, ◌&&◌, not}
 use Prim.Native.Nat.{ℕ, zero, suc, ◌+◌, ◌≤◌}
 use native.Mathlib.Omega.{arith}
 use lib.ListN.{length, get_or, length-map}
@@ -9,16 +9,23 @@ use lib.Dec.{leb, eqb}
 use borrow.Author.Tests.{eqb-true, eq-eqb, le-leb, leb-true, not-true}
 use Rattle.forest.specs.Pairs.{Item}
 use Rattle.forest.specs.Rows.{node, front, line}
-use Rattle.forest.proofs.ListLaws.{is, isnt, test, both}
+use Rattle.forest.proofs.ListLaws.{both}
 use Rattle.walk.specs.declared.Walked.{Walked}
+use Rattle.std.proofs.Common.{Option, Some, None}
+use Rattle.std.proofs.lemmas.Option.{none-some, cond_some, option_and_then_some}
 use Rattle.walk.specs.Marks.{has, mark}
 use Rattle.walk.proofs.Subtree.{Sub, crown, flat, pairs_of, nums_of, Flagged, Each, Filled, Held, Fresh}
 use Rattle.walk.specs.Walks.{lastly}
 use Rattle.walk.proofs.MarkLaws.{mark_all}
 use Rattle.walk.proofs.Towers.{tops, each_join, each_left, each_right}
-use Rattle.walk.specs.Walks.{climbs, ends, bad, place, meets, leaf_fits, leaf_items, leaf_walk, inner_fits, rest, others, inner_walk, walk}
+use Rattle.walk.specs.Walks.{climbs, ends, place, meets, leaf_fits, leaf_items, leaf_walk, inner_fits, rest, others, inner_walk, walk}
 use Rattle.walk.proofs.WalkLaws.{span, lower_some, leaf_yes, leaf_does, inner_yes, inner_does}
 use Rattle.forest.proofs.RowLaws.{length-line}
+
+-- what a test before an answer says of it
+pub cond_bad : {A : Type 0} (b : Bool) (o : Option A) (x : A) → cond b o None ≡ Some x → (b ≡ true) × (o ≡ Some x)
+cond_bad true o x e = (refl, e)
+cond_bad false o x e = absurd (none-some x e)
 
 -- Appended lists
 and_assoc : (a b c : Bool) → (a && b) && c ≡ a && (b && c)
@@ -68,13 +75,13 @@ lastly-line h e (t ∷ ts) = refl
 
 -- what the walks hand back that have met the subtrees ts
 abbrev pub met : (h : ℕ) → List (Sub h) → ℕ → List ℕ → ℕ → Walked
-met h ts low ms q = record { ok = true; marks = mark_all ms (flat (nums_of h) ts); low = low; next = ends q (flat (pairs_of h) ts) }
+met h ts low ms q = record { marks = mark_all ms (flat (nums_of h) ts); low = low; next = ends q (flat (pairs_of h) ts) }
 
 abbrev pub low_of : (h : ℕ) → Sub h → ℕ
 low_of h t = front (crown h t).items
 
 abbrev pub met1 : (h : ℕ) → Sub h → List ℕ → ℕ → Walked
-met1 h t ms q = record { ok = true; marks = mark_all ms (nums_of h t); low = low_of h t; next = ends q (pairs_of h t) }
+met1 h t ms q = record { marks = mark_all ms (nums_of h t); low = low_of h t; next = ends q (pairs_of h t) }
 
 module _ (ws : List ℕ) (T N m : ℕ) where
   abbrev pub store : ℕ → List ℕ
@@ -144,8 +151,8 @@ module _ (ws : List ℕ) (T N m : ℕ) where
     pub out : x ≡ met1 h t ms q
 
   -- yes: the children
-  module _ (h : ℕ) (f : Bool → ℕ → List ℕ → ℕ → Walked) (g : ℕ → Sub h)
-      (yes : (e : Bool) (n : ℕ) (ms : List ℕ) (q : ℕ) → (f e n ms q).ok ≡ true → Yes h e (g n) ms q (f e n ms q))
+  module _ (h : ℕ) (f : Bool → ℕ → List ℕ → ℕ → Option Walked) (g : ℕ → Sub h)
+      (yes : (e : Bool) (n : ℕ) (ms : List ℕ) (q : ℕ) (x : Walked) → f e n ms q ≡ Some x → Yes h e (g n) ms q x)
       (num : (n : ℕ) → (crown h (g n)).num ≡ n) where
     pub record RestYes (e : Bool) (xs : List Item) (low : ℕ) (ms : List ℕ) (q : ℕ) (x : Walked) : Type 0 where
       pub fits : Fits h e (subs g xs) ms q
@@ -160,29 +167,14 @@ module _ (ws : List ℕ) (T N m : ℕ) where
       out = r.out ∙ met-cons h e (g y.1) (subs g xs) ms q low;
     }
 
-    rest-yes : (e : Bool) (xs : List Item) (low : ℕ) (ms : List ℕ) (q : ℕ) → (rest f e xs (record { ok = true; marks = ms; low = low; next = q })).ok ≡ true →
-        RestYes e xs low ms q (rest f e xs (record { ok = true; marks = ms; low = low; next = q }))
-    rest-yes e [] low ms q r = record { fits = record { ranged = tt; fresh = tt; rising = refl; filled = tt; held = tt }; same = refl; out = refl }
-    rest-yes e (y ∷ xs) low ms q r = elim (test ((f (lastly e xs) y.1 ms q).ok && eqb (f (lastly e xs) y.1 ms q).low y.0)) [
-      | isnt c ↦ absurd (true≢false (sym (simp c at r)))
-      | is c ↦
-          let b = both (f (lastly e xs) y.1 ms q).ok (eqb (f (lastly e xs) y.1 ms q).low y.0) c in
-          let t = yes (lastly e xs) y.1 ms q b.0 in
-          let l : (f (lastly e xs) y.1 ms q).low ≡ y.0 = eqb-true (f (lastly e xs) y.1 ms q).low y.0 b.1 in
-          let i = rest-yes e xs low (f (lastly e xs) y.1 ms q).marks (f (lastly e xs) y.1 ms q).next (simp c at r) in
-          let k : RestYes e xs low (mark_all ms (nums_of h (g y.1))) (ends q (pairs_of h (g y.1))) (rest f e xs (record {
-            ok = true;
-            marks = (f (lastly e xs) y.1 ms q).marks;
-            low = low;
-            next = (f (lastly e xs) y.1 ms q).next;
-          })) = subst (λ (w : Walked). RestYes e xs low w.marks w.next (rest f e xs (record {
-            ok = true;
-            marks = (f (lastly e xs) y.1 ms q).marks;
-            low = low;
-            next = (f (lastly e xs) y.1 ms q).next;
-          }))) t.out i in
-          simp c (rest-step e y xs low ms q _ t.fit (sym (ap (λ (w : Walked). w.low) t.out) ∙ l) k)
-    ]
+    rest-yes : (e : Bool) (xs : List Item) (low : ℕ) (ms : List ℕ) (q : ℕ) (x : Walked) → rest f e xs (record { marks = ms; low = low; next = q }) ≡ Some x → RestYes e xs low ms q x
+    rest-yes e [] low ms q x r = record { fits = record { ranged = tt; fresh = tt; rising = refl; filled = tt; held = tt }; same = refl; out = cc }
+    rest-yes e (y ∷ xs) low ms q x r = option_and_then_some _ (f (lastly e xs) y.1 ms q) x r (λ z w s.
+        let c = cond_bad (eqb z.low y.0) _ x s in
+        let t = yes (lastly e xs) y.1 ms q z w in
+        let l : z.low ≡ y.0 = eqb-true z.low y.0 c.0 in
+        let i = rest-yes e xs low z.marks z.next x c.1 in
+        rest-step e y xs low ms q x t.fit (sym (ap (λ (w : Walked). w.low) t.out) ∙ l) (subst (λ (w : Walked). RestYes e xs low w.marks w.next x) t.out i))
 
   -- a node may be met
   pub meets_yes : (ms : List ℕ) (n : ℕ) → meets N ms n ≡ true → (1 ≤ n) × (n ≤ N) × (has ms n ≡ false)
@@ -195,28 +187,6 @@ module _ (ws : List ℕ) (T N m : ℕ) where
   pub meets_does : (ms : List ℕ) (n : ℕ) → 1 ≤ n → n ≤ N → has ms n ≡ false → meets N ms n ≡ true
   unfolding meets
   meets_does ms n a b c = rw (le-leb 1 n a, le-leb n N b, c)
-
-  leaf_walk_yes_lem : (b : ℕ) (e : Bool) (ms : List ℕ) (q : ℕ) → (leaf_walk ws m b e ms q).ok ≡ true →
-      (leaf_fits ws m b e ≡ true) × (climbs q (leaf_items ws b) ≡ true) ×
-      (leaf_walk ws m b e ms q ≡ record { ok = true; marks = ms; low = front (leaf_items ws b); next = ends q (leaf_items ws b) })
-  unfolding leaf_walk
-  leaf_walk_yes_lem b e ms q r = elim (test (leaf_fits ws m b e && climbs q (leaf_items ws b))) [
-    | isnt c ↦ absurd (true≢false (sym (simp c at r)))
-    | is c ↦ let d = both (leaf_fits ws m b e) (climbs q (leaf_items ws b)) c in (d.0, d.1, rw c)
-  ]
-
-  pub record InnerWalk (f : Bool → ℕ → List ℕ → ℕ → Walked) (b : ℕ) (e : Bool) (ms : List ℕ) (q : ℕ) (x : Walked) (r : Walked) : Type 0 where
-    pub fits : inner_fits ws b e ≡ true
-    pub first : x.ok ≡ true
-    pub same : r ≡ rest f e (others ws b) (record { ok = true; marks = x.marks; low = x.low; next = x.next })
-
-  inner_walk_yes : (f : Bool → ℕ → List ℕ → ℕ → Walked) (b : ℕ) (e : Bool) (ms : List ℕ) (q : ℕ) → (inner_walk f ws b e ms q).ok ≡ true →
-      InnerWalk f b e ms q (f (lastly e (others ws b)) (get_or ws (b + 8) 0) ms q) (inner_walk f ws b e ms q)
-  unfolding inner_walk
-  inner_walk_yes f b e ms q r = elim (test (inner_fits ws b e && (f (lastly e (others ws b)) (get_or ws (b + 8) 0) ms q).ok)) [
-    | isnt c ↦ absurd (true≢false (sym (simp c at r)))
-    | is c ↦ let d = both (inner_fits ws b e) (f (lastly e (others ws b)) (get_or ws (b + 8) 0) ms q).ok c in record { fits = d.0; first = d.1; same = rw c }
-  ]
 
   module _ (h : ℕ) (e : Bool) (n : ℕ) (ms : List ℕ) (q : ℕ) (a : 1 ≤ n) (b : n ≤ N) (c : has ms n ≡ false) where
     abbrev p : ℕ
@@ -243,65 +213,62 @@ module _ (ws : List ℕ) (T N m : ℕ) where
       out = z ∙ ap (λ (w : Walked). met h ts w.low w.marks w.next) o ∙ met-cons h e t ts (mark ms n) q (low_of h t);
     }
 
-  pub walk_yes : (h : ℕ) (e : Bool) (n : ℕ) (ms : List ℕ) (q : ℕ) → (walk ws T N m h e n ms q).ok ≡ true → Yes h e (sub h n) ms q (walk ws T N m h e n ms q)
-  walk_yes zero e n ms q r = elim (test (meets N ms n)) [
-    | isnt c ↦ absurd (true≢false (sym (simp c at r)))
-    | is c ↦
-        let a = meets_yes ms n c in
-        let l = leaf_walk_yes_lem (place T n) e (mark ms n) q (simp c at r) in
-        let y = leaf_yes ws (place T n) m e l.0 in
-        simp c (record {
-          fit = record {
-            ranged = ((a.0, a.1), tt);
-            fresh = (a.2, tt);
-            rising = l.1;
-            filled = (y.enough, y.most);
-            held = y.words;
-          };
-          out = l.2;
-        })
-  ]
-  walk_yes (suc h) e n ms q r = elim (test (meets N ms n)) [
-    | isnt c ↦ absurd (true≢false (sym (simp c at r)))
-    | is c ↦
-        let a = meets_yes ms n c in
-        let p = place T n in
-        let r' : (inner_walk (walk ws T N m h) ws (place T n) e (mark ms n) q).ok ≡ true = simp c at r in
-        let i = inner_walk_yes (walk ws T N m h) p e (mark ms n) q r' in
-        let x = walk ws T N m h (lastly e (others ws p)) (get_or ws (p + 8) 0) (mark ms n) q in
-        let y = walk_yes h (lastly e (others ws p)) (get_or ws (p + 8) 0) (mark ms n) q i.first in
-        let j = rest-yes h (walk ws T N m h) (sub h) (walk_yes h) (num_sub h) e (others ws p) x.low x.marks x.next (ap (λ (w : Walked). w.ok) (sym i.same) ∙ r') in
-        simp c (inner_out h e n ms q a.0 a.1 a.2 (sub h (get_or ws (p + 8) 0)) (subs (sub h) (others ws p)) x _ i.fits (length_subs (sub h) (others ws p))
-        j.same (num_sub h (get_or ws (p + 8) 0)) (rw (lastly_subs (sub h) e (others ws p)) y.fit) y.out j.fits (i.same ∙ j.out))
-  ]
+  pub walk_yes : (h : ℕ) (e : Bool) (n : ℕ) (ms : List ℕ) (q : ℕ) (x : Walked) → walk ws T N m h e n ms q ≡ Some x → Yes h e (sub h n) ms q x
+  unfolding leaf_walk inner_walk
+  walk_yes zero e n ms q x r =
+      let c = cond_bad (meets N ms n) _ x r in
+      let a = meets_yes ms n c.0 in
+      let d = cond_some (leaf_fits ws m (place T n) e && climbs q (leaf_items ws (place T n))) _ x c.1 in
+      let l = both (leaf_fits ws m (place T n) e) (climbs q (leaf_items ws (place T n))) d.0 in
+      let y = leaf_yes ws (place T n) m e l.0 in
+      record {
+        fit = record {
+          ranged = ((a.0, a.1), tt);
+          fresh = (a.2, tt);
+          rising = l.1;
+          filled = (y.enough, y.most);
+          held = y.words;
+        };
+        out = sym d.1;
+      }
+  walk_yes (suc h) e n ms q x r =
+      let c = cond_bad (meets N ms n) _ x r in
+      let a = meets_yes ms n c.0 in
+      let p = place T n in
+      let i = cond_bad (inner_fits ws p e) _ x c.1 in
+      option_and_then_some _ (walk ws T N m h (lastly e (others ws p)) (get_or ws (p + 8) 0) (mark ms n) q) x i.1 (λ z w s.
+      let y = walk_yes h (lastly e (others ws p)) (get_or ws (p + 8) 0) (mark ms n) q z w in
+      let j = rest-yes h (walk ws T N m h) (sub h) (walk_yes h) (num_sub h) e (others ws p) z.low z.marks z.next x s in
+      inner_out h e n ms q a.0 a.1 a.2 (sub h (get_or ws (p + 8) 0)) (subs (sub h) (others ws p)) z x i.0 (length_subs (sub h) (others ws p))
+      j.same (num_sub h (get_or ws (p + 8) 0)) (rw (lastly_subs (sub h) e (others ws p)) y.fit) y.out j.fits j.out)
 
   -- And back: where the words hold a subtree, the walk meets it
-  rest_does : (h : ℕ) (f : Bool → ℕ → List ℕ → ℕ → Walked)
-      (does : (e : Bool) (t : Sub h) (ms : List ℕ) (q : ℕ) → Fit h e t ms q → f e (crown h t).num ms q ≡ met1 h t ms q)
-      (e : Bool) (ts : List (Sub h)) (low : ℕ) (ms : List ℕ) (q : ℕ) → Fits h e ts ms q → rest f e (line (tops h ts)) (record { ok = true; marks = ms; low = low; next = q }) ≡ met h ts low ms q
+  rest_does : (h : ℕ) (f : Bool → ℕ → List ℕ → ℕ → Option Walked)
+      (does : (e : Bool) (t : Sub h) (ms : List ℕ) (q : ℕ) → Fit h e t ms q → f e (crown h t).num ms q ≡ Some (met1 h t ms q))
+      (e : Bool) (ts : List (Sub h)) (low : ℕ) (ms : List ℕ) (q : ℕ) → Fits h e ts ms q → rest f e (line (tops h ts)) (record { marks = ms; low = low; next = q }) ≡ Some (met h ts low ms q)
   rest_does h f does e [] low ms q g = refl
   rest_does h f does e (t ∷ ts) low ms q g =
       let p = fits-parts h e t ts ms q g in
-      let d : f (lastly e (line (tops h ts))) (crown h t).num ms q ≡ met1 h t ms q = rw (lastly-line h e ts) (does (lastly e ts) t ms q p.0) in
+      let d : f (lastly e (line (tops h ts))) (crown h t).num ms q ≡ Some (met1 h t ms q) = rw (lastly-line h e ts) (does (lastly e ts) t ms q p.0) in
       rw (d, eq-eqb (low_of h t) (low_of h t) refl)
-      (rest_does h f does e ts low (mark_all ms (nums_of h t)) (ends q (pairs_of h t)) p.1 ∙ met-cons h e t ts ms q low)
+      (rest_does h f does e ts low (mark_all ms (nums_of h t)) (ends q (pairs_of h t)) p.1 ∙ ap Some (met-cons h e t ts ms q low))
 
-  inner_met : (h : ℕ) (f : Bool → ℕ → List ℕ → ℕ → Walked)
-      (does : (e : Bool) (t : Sub h) (ms : List ℕ) (q : ℕ) → Fit h e t ms q → f e (crown h t).num ms q ≡ met1 h t ms q)
+  inner_met : (h : ℕ) (f : Bool → ℕ → List ℕ → ℕ → Option Walked)
+      (does : (e : Bool) (t : Sub h) (ms : List ℕ) (q : ℕ) → Fit h e t ms q → f e (crown h t).num ms q ≡ Some (met1 h t ms q))
       (e : Bool) (n : ℕ) (ts : List (Sub h)) (ms : List ℕ) (q : ℕ) → Fit (suc h) e (n, ts) ms q →
-      cond (meets N ms n) (inner_walk f ws (place T n) e (mark ms n) q) bad ≡ met1 (suc h) (n, ts) ms q
+      cond (meets N ms n) (inner_walk f ws (place T n) e (mark ms n) q) None ≡ Some (met1 (suc h) (n, ts) ms q)
   unfolding inner_walk
   inner_met h f does e n [] ms q g = absurd (omega (arith, lower_some e 4 (omega arith), g.filled.0))
   inner_met h f does e n (t ∷ ts) ms q g =
       let k : length (line (tops h ts)) ≡ length ts = length-line (tops h ts) ∙ length-map ts (crown h) in
       let i = inner_does ws (place T n) e (low_of h t, (crown h t).num) (line (tops h ts)) g.held.0 (rw k g.filled.0) (rw k g.filled.1) in
       let p = fits-parts h e t ts (mark ms n) q (record { ranged = g.ranged.1; fresh = g.fresh.1; rising = g.rising; filled = g.filled.2; held = g.held.1 }) in
-      let d : f (lastly e (line (tops h ts))) (crown h t).num (mark ms n) q ≡ met1 h t (mark ms n) q =
+      let d : f (lastly e (line (tops h ts))) (crown h t).num (mark ms n) q ≡ Some (met1 h t (mark ms n) q) =
       rw (lastly-line h e ts) (does (lastly e ts) t (mark ms n) q p.0) in
       rw (meets_does ms n g.ranged.0.0 g.ranged.0.1 g.fresh.0, i.fits, i.same, i.first, d)
-      (rest_does h f does e ts (low_of h t) (mark_all (mark ms n) (nums_of h t)) (ends q (pairs_of h t)) p.1 ∙ met-cons h e t ts (mark ms n) q (low_of h t))
+      (rest_does h f does e ts (low_of h t) (mark_all (mark ms n) (nums_of h t)) (ends q (pairs_of h t)) p.1 ∙ ap Some (met-cons h e t ts (mark ms n) q (low_of h t)))
 
-  pub walk_does : (h : ℕ) (e : Bool) (t : Sub h) (ms : List ℕ) (q : ℕ) → Fit h e t ms q → walk ws T N m h e (crown h t).num ms q ≡ met1 h t ms q
+  pub walk_does : (h : ℕ) (e : Bool) (t : Sub h) (ms : List ℕ) (q : ℕ) → Fit h e t ms q → walk ws T N m h e (crown h t).num ms q ≡ Some (met1 h t ms q)
   unfolding leaf_walk inner_walk
   walk_does zero e t ms q f =
       let d = leaf_does ws (place T t.num) m e t.items f.held f.filled.0 f.filled.1 in

@@ -1,8 +1,15 @@
-use mathlib.Core.Path.{◌∙◌}
-use native.Mathlib.Omega.{arith}
-use Rattle.walk.proofs.Laws.{climbs_on}
+use Rattle.std.proofs.Common.{sym, ◌∙◌, ◌<◌, arith}
+use Rattle.walk.proofs.Laws.{slice_length, slice_word, climbs_on, climbs_off}
 use Rattle.walk.proofs.rises.Goals as goal
 
-pub loop-i-preserved : goal.loop-i-preserved
-loop-i-preserved c =
-    (omega arith, c.loop-i.invariant.1 ∙ climbs_on c.args.ws.now c.args.a c.args.r c.loop-i.i c.loop-i.low (omega arith) c.if-k-low.false)
+pub returns-then-k-low : goal.returns-then-k-low
+returns-then-k-low c =
+    let n = slice_length c.args.ws.now c.args.a c.args.r c.requires in
+    let h : c.loop-key.key-index < c.args.r = omega arith in
+    sym (c.loop-key.invariant ∙ climbs_off c.args.ws.now c.args.a c.args.r c.loop-key.key-index c.loop-key.low _ h (slice_word c.args.ws.now c.args.a c.args.r c.loop-key.key-index h) c.if-k-low.true)
+
+pub loop-key-preserved : goal.loop-key-preserved
+loop-key-preserved c =
+    let n = slice_length c.args.ws.now c.args.a c.args.r c.requires in
+    let h : c.loop-key.key-index < c.args.r = omega arith in
+    c.loop-key.invariant ∙ climbs_on c.args.ws.now c.args.a c.args.r c.loop-key.key-index c.loop-key.low _ h (slice_word c.args.ws.now c.args.a c.args.r c.loop-key.key-index h) c.if-k-low.false
