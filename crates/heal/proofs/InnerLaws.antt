@@ -12,7 +12,7 @@ use Rattle.node.specs.Nodes.{Inner, inner_items, inner_cut, rekey_at, status_of}
 use Rattle.node.specs.declared.Removed.{Removed}
 use Rattle.node.specs.declared.Removed.TheVariants.{Underflow}
 use Rattle.node.proofs.Words.{inner_is, length-items, length-rekey_at}
-use Rattle.crit.specs.Asks.{Route, Leaves}
+use Rattle.crit.specs.Asks.{Route, Leaves, off_end}
 use Rattle.heal.specs.Steps.{both}
 use Rattle.heal.specs.Cycle.{inner_kind, stayed, AskHeal, Cuts}
 use Rattle.crit.proofs.WayLaws.{Inside, way_here, way_block}
@@ -52,7 +52,7 @@ module _ {ws : List ℕ} {t : ℕ} {c : Cursor} {level : ℕ} (a : AskHeal inner
   pub small_on : get_or c.places level 0 + 15 < get_or w 0 0 → Leaves (λ s. stayed inner_kind s level) ws ws t c c
   small_on h = JoinLaws.stays_on inner_kind inner_law inner_length a (omega (arith, count_is, one))
 
-  pub small_off : {r : Cursor} → get_or w 0 0 ≤ get_or c.places level 0 + 15 → r.nodes ≡ c.nodes → r.places ≡ c.places → r.tree ≡ c.tree → r.size ≡ 0 → Leaves (λ s. stayed inner_kind s level) ws ws t c r
+  pub small_off : {r : Cursor} → get_or w 0 0 ≤ get_or c.places level 0 + 15 → r ≡ off_end c → Leaves (λ s. stayed inner_kind s level) ws ws t c r
   small_off h = JoinLaws.stays_off inner_kind inner_law inner_length a (omega (arith, count_is, one))
 
 pub both-length : (w v : List ℕ) (k : ℕ) → length (both w v k) ≡ (get_or w 0 0 - 15) + (get_or v 0 0 - 15)

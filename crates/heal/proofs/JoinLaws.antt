@@ -2,7 +2,7 @@
 use mathlib.Core.Path.{◌≡◌, refl, sym, ap, ◌∙◌, subst}
 use mathlib.Core.List.{List}
 use mathlib.Core.Bool.{true, false, true≢false}
-use mathlib.Core.Option.{some}
+use Rattle.std.specs.Prelude.{Some}
 use Prim.Native.Nat.{ℕ, ◌+◌, ◌-◌, ◌≤◌, ◌<◌}
 use native.Mathlib.Omega.{arith}
 use lib.ListN.{length, get_or, take, drop}
@@ -21,7 +21,7 @@ use Rattle.node.specs.declared.Removed.{Removed}
 use Rattle.node.specs.declared.Removed.TheVariants.{Underflow}
 use Rattle.node.proofs.OnItems.{balance_flag, balance_fits, balance_over}
 use Rattle.crit.specs.States.{right_sibling, right_set, hand_key, stored}
-use Rattle.crit.specs.Asks.{Mem, moved, Spelt, Route, Leaves}
+use Rattle.crit.specs.Asks.{Mem, moved, Spelt, Route, Leaves, off_end}
 use Rattle.heal.specs.Cycle.{Kind, left, fits, gathered, shared, stayed, AskHeal, AskJoin, Joined, Cuts}
 use Rattle.crit.proofs.HealMem
 use Rattle.crit.proofs.SpeltLaws.{spelt_block, spelt_placed, spelt_store, spelt_level, same_count}
@@ -105,16 +105,16 @@ module _ (k : Kind) (law : Lawful k.ops k.words k.cap k.low) (sixteen : (xs : Li
           simp e sp;
     }
 
-    pub stays_off : {r : Cursor} → length here.items ≤ get_or c.places level 0 → r.nodes ≡ c.nodes → r.places ≡ c.places → r.tree ≡ c.tree → r.size ≡ 0 → Leaves (λ s. stayed k s level) ws ws t c r
-    stays_off {r} h x y tr z = record {
+    pub stays_off : {r : Cursor} → length here.items ≤ get_or c.places level 0 → r ≡ off_end c → Leaves (λ s. stayed k s level) ws ws t c r
+    stays_off {r} h o = record {
       run = λ m sp.
           let e : ltb (m.s.ps level) (left k m.s level) ≡ false = rw (left_of_lem m sp, ← (sp.places level a.deep)) (le-ltb _ _ h) in
-          simp e (spelt_off sp x y tr z);
+          simp e (spelt_off sp o);
     }
 
   -- two neighbours
   module _ {ws : List ℕ} {t : ℕ} {c : Cursor} {level key node : ℕ} (j : AskJoin k ws t c level key node) where
-    right : right_sibling j.heal.mem.s.st j.heal.mem.s.ns j.heal.mem.s.ps level ≡ some (key, node)
+    right : right_sibling j.heal.mem.s.st j.heal.mem.s.ns j.heal.mem.s.ps level ≡ Some (key, node)
     right = sym (j.finds.run j.heal.mem j.heal.spelt)
 
     pub mate : Held k.words k.cap j.heal.mem.count j.heal.ready.row j.heal.mem.s.st node
@@ -140,7 +140,7 @@ module _ (k : Kind) (law : Lawful k.ops k.words k.cap k.low) (sixteen : (xs : Li
       flag : b.all ≡ leb (length us) k.cap
       flag = ap (λ (x : Balanced). x.all) eb ∙ balance_flag k.words k.cap us
 
-      fits-of : (m : Mem) (x : Item) → Spelt ws t c m → right_sibling m.s.st m.s.ns m.s.ps level ≡ some x → leb (length us) k.cap ≡ fits k m.s level x
+      fits-of : (m : Mem) (x : Item) → Spelt ws t c m → right_sibling m.s.st m.s.ns m.s.ps level ≡ Some x → leb (length us) k.cap ≡ fits k m.s level x
       fits-of m x sp e =
           let q : ◌≡◌ {A = Item} (key, node) x = cc (j.finds.run m sp, e) in
           subst (λ (x : Item). leb (length us) k.cap ≡ fits k m.s level x) q

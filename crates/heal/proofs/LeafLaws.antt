@@ -17,7 +17,7 @@ use Rattle.node.specs.declared.Removed.{Removed}
 use Rattle.node.specs.declared.Removed.TheVariants.{Underflow}
 use Rattle.node.proofs.Words.{leaf_is, length_pairs}
 use Rattle.crit.specs.Paths.{num_at}
-use Rattle.crit.specs.Asks.{moved, Leaves}
+use Rattle.crit.specs.Asks.{moved, Leaves, off_end}
 use Rattle.heal.specs.Steps.{leaf_ops}
 use Rattle.heal.specs.Cycle.{leaf_kind, stayed, AskHeal, AskFront, Cuts, AskPair}
 use Rattle.crit.proofs.HealMem
@@ -45,7 +45,7 @@ module _ {ws : List ℕ} {t : ℕ} {c : Cursor} {level : ℕ} (a : AskHeal leaf_
   pub small_on : get_or c.places level 0 + 32 < get_or w 0 0 → Leaves (λ s. stayed leaf_kind s level) ws ws t c c
   small_on h = JoinLaws.stays_on leaf_kind leaf_law leaf_length a (omega (arith, count_is))
 
-  pub small_off : {r : Cursor} → get_or w 0 0 ≤ get_or c.places level 0 + 32 → r.nodes ≡ c.nodes → r.places ≡ c.places → r.tree ≡ c.tree → r.size ≡ 0 → Leaves (λ s. stayed leaf_kind s level) ws ws t c r
+  pub small_off : {r : Cursor} → get_or w 0 0 ≤ get_or c.places level 0 + 32 → r ≡ off_end c → Leaves (λ s. stayed leaf_kind s level) ws ws t c r
   small_off h = JoinLaws.stays_off leaf_kind leaf_law leaf_length a (omega (arith, count_is))
 
 pub both-length : (w v : List ℕ) → length (leaf_pairs w ++ leaf_pairs v) ≡ (get_or w 0 0 - 32) + (get_or v 0 0 - 32)

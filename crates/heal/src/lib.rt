@@ -8,7 +8,6 @@ ghost use Rattle.heal.specs.Steps.{leaf_ops, inner_ops, leaf_front, fronted, tak
 ghost use Rattle.heal.specs.Cycle.{inner_kind, leaf_kind, stayed, emptied, under, AskEmpty, AskHeal, AskJoin, AskJoinLeaf, AskFront, Joined, Cuts, Mends, AskPair};
 ghost use Rattle.node.specs.declared.Removed.{Removed};
 
-use crit::Near;
 use forest::Cursor;
 use node::Removed;
 
@@ -38,9 +37,7 @@ fn no_right(ws: &[u32], t: usize, c: Cursor, level: usize) -> Cursor
     if p + 15 < w[0] as usize {
         return c;
     }
-    let mut d = c;
-    d.size = 0;
-    d
+    crit::off_end(c)
 }
 
 // An inner node gives all its children to its right sibling, or they share; was it all?
@@ -72,18 +69,10 @@ fn heal_level(ws: &mut [u32], t: usize, c: Cursor, status: Removed, level: usize
     ensures { Mends inner_kind ws.old ws.new t c result status level }
 {
     match status {
-        Removed::Healthy => {
-            return c;
-        }
-        Removed::Rightmost => {
-            return crit::next_node(ws, t, c, level);
-        }
-        Removed::Underflow => {
-            return underflowed_node(ws, t, c, level);
-        }
-        Removed::Empty => {
-            return empty_node(ws, t, c, level);
-        }
+        Removed::Healthy => c,
+        Removed::Rightmost => crit::next_node(ws, t, c, level),
+        Removed::Underflow => underflowed_node(ws, t, c, level),
+        Removed::Empty => empty_node(ws, t, c, level),
     }
 }
 
@@ -93,7 +82,7 @@ fn underflowed_node(ws: &mut [u32], t: usize, c: Cursor, level: usize) -> Cursor
     requires { AskHeal inner_kind ws.old t c Removed.Underflow level }
     ensures { Leaves (under inner_kind level) ws.old ws.new t c result }
 {
-    if let Near::Right(key, node) = crit::right_sibling(ws, t, c, level) {
+    if let Some((key, node)) = crit::right_sibling(ws, t, c, level) {
         if join(ws, t, c, level, key, node) {
             return empty_node(ws, t, c, level);
         }
@@ -111,9 +100,7 @@ fn empty_node(ws: &mut [u32], t: usize, c: Cursor, level: usize) -> Cursor
     let n = c.nodes[level];
     pool::free_node(ws, t, n);
     if level == 0 {
-        let mut d = c;
-        d.size = 0;
-        return d;
+        return crit::off_end(c);
     }
     let near = crit::right_sibling(ws, t, c, level);
     let status = cut_parent(ws, t, c, level);
@@ -132,9 +119,7 @@ fn no_right_leaf(ws: &[u32], t: usize, c: Cursor, level: usize) -> Cursor
     if p + 32 < w[0] as usize {
         return c;
     }
-    let mut d = c;
-    d.size = 0;
-    d
+    crit::off_end(c)
 }
 
 // A leaf gives all its pairs to its right sibling, or they share; was it all?
@@ -164,7 +149,7 @@ fn underflowed_leaf(ws: &mut [u32], t: usize, c: Cursor, level: usize) -> Cursor
     requires { AskHeal leaf_kind ws.old t c Removed.Underflow level }
     ensures { Leaves (under leaf_kind level) ws.old ws.new t c result }
 {
-    if let Near::Right(_, node) = crit::right_sibling(ws, t, c, level) {
+    if let Some((_, node)) = crit::right_sibling(ws, t, c, level) {
         if join_leaf(ws, t, c, level, node) {
             return empty_node(ws, t, c, level);
         }
@@ -179,18 +164,10 @@ fn heal_leaf(ws: &mut [u32], t: usize, c: Cursor, status: Removed, level: usize)
     ensures { Mends leaf_kind ws.old ws.new t c result status level }
 {
     match status {
-        Removed::Healthy => {
-            return c;
-        }
-        Removed::Rightmost => {
-            return crit::next_node(ws, t, c, level);
-        }
-        Removed::Underflow => {
-            return underflowed_leaf(ws, t, c, level);
-        }
-        Removed::Empty => {
-            return empty_node(ws, t, c, level);
-        }
+        Removed::Healthy => c,
+        Removed::Rightmost => crit::next_node(ws, t, c, level),
+        Removed::Underflow => underflowed_leaf(ws, t, c, level),
+        Removed::Empty => empty_node(ws, t, c, level),
     }
 }
 

@@ -41,13 +41,13 @@ pub underflowed_node-right_sibling-requires : goal.underflowed_node-right_siblin
 underflowed_node-right_sibling-requires t c = CycleLaws.heal_way inner_kind inner_law c.requires
 
 pub underflowed_node-empty_node-requires : goal.underflowed_node-empty_node-requires
-underflowed_node-empty_node-requires t c = (omega (arith, c.decreases), CycleLaws.ask_merge inner_kind c.right_sibling.ensures c.in-Right.is inner_law c.requires c.join.ensures c.if-join.true)
+underflowed_node-empty_node-requires t c = (omega (arith, c.decreases), CycleLaws.ask_merge inner_kind c.right_sibling.ensures c.in-Some.is inner_law c.requires c.join.ensures c.if-join.true)
 
 pub underflowed_node-returns-then-join : goal.underflowed_node-returns-then-join
-underflowed_node-returns-then-join t c = CycleLaws.under_merge inner_kind c.right_sibling.ensures c.in-Right.is c.join.ensures c.if-join.true c.empty_node.ensures
+underflowed_node-returns-then-join t c = CycleLaws.under_merge inner_kind c.right_sibling.ensures c.in-Some.is c.join.ensures c.if-join.true c.empty_node.ensures
 
-pub underflowed_node-returns-in-Right : goal.underflowed_node-returns-in-Right
-underflowed_node-returns-in-Right t c = CycleLaws.under-share inner_kind c.right_sibling.ensures c.in-Right.is c.join.ensures c.if-join.false
+pub underflowed_node-returns-in-Some : goal.underflowed_node-returns-in-Some
+underflowed_node-returns-in-Some t c = CycleLaws.under-share inner_kind c.right_sibling.ensures c.in-Some.is c.join.ensures c.if-join.false
 
 pub underflowed_node-returns : goal.underflowed_node-returns
 underflowed_node-returns t c = CycleLaws.under_none inner_kind c.right_sibling.ensures c.in_default.is c.no_right.ensures

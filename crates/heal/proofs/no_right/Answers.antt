@@ -1,4 +1,3 @@
-use mathlib.Core.Path.{refl}
 use Rattle.heal.specs.Cycle.{inner_kind}
 use Rattle.heal.proofs.InnerLaws
 use Rattle.heal.proofs.JoinLaws
@@ -12,4 +11,4 @@ pub returns-then-p-w : goal.returns-then-p-w
 returns-then-p-w c = InnerLaws.small_on c.requires c.load-w.result c.load-w.ensures c.if-p-w.true
 
 pub returns : goal.returns
-returns c = InnerLaws.small_off c.requires c.load-w.result c.load-w.ensures c.if-p-w.false refl refl refl refl
+returns c = InnerLaws.small_off c.requires c.load-w.result c.load-w.ensures c.if-p-w.false c.off_end.ensures

@@ -1,4 +1,3 @@
-use mathlib.Core.Path.{refl}
 use Rattle.heal.specs.Cycle.{leaf_kind}
 use Rattle.heal.proofs.JoinLaws
 use Rattle.heal.proofs.LeafLaws
@@ -11,4 +10,4 @@ pub returns-then-p-w : goal.returns-then-p-w
 returns-then-p-w c = LeafLaws.small_on c.requires c.load-w.result c.load-w.ensures c.if-p-w.true
 
 pub returns : goal.returns
-returns c = LeafLaws.small_off c.requires c.load-w.result c.load-w.ensures c.if-p-w.false refl refl refl refl
+returns c = LeafLaws.small_off c.requires c.load-w.result c.load-w.ensures c.if-p-w.false c.off_end.ensures
