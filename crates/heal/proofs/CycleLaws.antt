@@ -1,8 +1,9 @@
--- PROOFS. The cycle of three: each call finds what it asks, and each return is a step of its definition
+-- PROOFS. Healing upward: each call finds what it asks, and each return is a step of its definition
 use mathlib.Core.Path.{◌≡◌, refl, sym, ◌∙◌, subst}
 use mathlib.Core.List.{List, [], ◌∷◌, ◌++◌}
 use mathlib.Core.Bool.{Bool, true, false, ◌&&◌}
 use Rattle.std.specs.Prelude.{Option, Some, None}
+use Rattle.std.proofs.lemmas.Option.{none-some, same_Some}
 use Prim.Native.Nat.{ℕ, zero, suc, ◌-◌, ◌*◌, ◌≤◌, ◌<◌}
 use native.Mathlib.Omega.{arith}
 use lib.ListN.{length, get_or}
@@ -23,20 +24,34 @@ use Rattle.crit.specs.Paths.{num_at}
 use Rattle.crit.specs.Asks.{Mem, moved, Spelt, Route, Leaves, Finds, Passes, off_end}
 use Rattle.heal.specs.Steps.{inner_ops, heal_level, under_with, empty_node, empty_from, parent_cut, free_node}
 use Rattle.heal.specs.Wounds.{Emptied, Wounded, alive, dead, cut_row}
-use Rattle.heal.specs.Cycle.{Kind, inner_kind, emptied, left, standing, fits, gathered, stayed, healed, under, AskEmpty, AskHeal, AskJoin, Joined, Cuts, Mends}
+use Rattle.heal.specs.Cycle.{Kind, inner_kind, emptied, left, standing, fits, gathered, stayed, healed, under, AskEmpty, AskHeal, AskJoin, Joined, Cuts, Mends, Settles}
 use Rattle.crit.proofs.HealMem
 use Rattle.crit.proofs.HealPath
 use Rattle.crit.proofs.SpeltLaws.{same_count}
 use Rattle.crit.proofs.NextLaws.{spelt_off}
 use Rattle.heal.proofs.HealUp.{Lawful}
 use Rattle.heal.proofs.HealReady.{ready_cut, ready_none, ready_merge, par_in, len-C, path_c, once_row}
-use Rattle.heal.proofs.InnerOps.{inner_law}
+use Rattle.heal.specs.InnerOps.{inner_law}
 use Rattle.heal.proofs.FreeLaws.{spelt_freeable, spelt_freed, same_free, room, within_named}
 use Rattle.forest.proofs.WordLaws.{count-append}
 use Rattle.forest.proofs.CountLaws.{small}
 
 clash : ◌≡◌ {A = ℕ} 0 1 → ⊥
 clash z = omega arith
+
+-- a node that stays, a node that goes, and what follows of what it settled as
+pub settled : {P : List ℕ → Cursor → Type 0} {vs : List ℕ} {t : ℕ} {c r : Cursor} {level : ℕ} → P vs r → Settles P vs t c level (Some r)
+settled {P} {vs} {r} h = record {
+  stays = λ d e. subst (P vs) (same_Some r d e) h;
+  asks = λ e. absurd (none-some r (sym e));
+  goes = λ e us d f. absurd (none-some r (sym e));
+}
+
+pub goes_then : {P : List ℕ → Cursor → Type 0} {vs : List ℕ} {t : ℕ} {c : Cursor} {level : ℕ} → AskEmpty vs t c level → ((us : List ℕ) (d : Cursor) → Leaves (emptied level) vs us t c d → P us d) → Settles P vs t c level None
+goes_then a h = record { stays = λ d e. absurd (none-some d e); asks = λ e. a; goes = λ e. h }
+
+pub settles_as : {P Q : List ℕ → Cursor → Type 0} {vs : List ℕ} {t : ℕ} {c : Cursor} {level : ℕ} {r : Option Cursor} → ((us : List ℕ) (d : Cursor) → P us d → Q us d) → Settles P vs t c level r → Settles Q vs t c level r
+settles_as {vs} f s = record { stays = λ d e. f vs d (s.stays d e); asks = s.asks; goes = λ e us d g. f us d (s.goes e us d g) }
 
 module _ (k : Kind) where
   -- the status decides

@@ -22,8 +22,8 @@ use Rattle.heal.specs.Cycle.{Kind, leaf_kind, left, standing, healed, AskFront, 
 use Rattle.crit.proofs.SpeltLaws.{spelt_placed, spelt_level, same_count}
 use Rattle.heal.proofs.HealTree.{front_wounded, front_words, front_path}
 use Rattle.heal.proofs.HealReady.{within_once}
-use Rattle.heal.proofs.InnerOps.{inner_law}
-use Rattle.heal.proofs.LeafOps.{leaf_front_lem}
+use Rattle.heal.specs.InnerOps.{inner_law}
+use Rattle.heal.specs.LeafOps.{leaf_front_lem}
 use Rattle.heal.proofs.LeafLaws.{leaf_law, leaf_named}
 
 -- update_front

@@ -1,3 +1,6 @@
 pub mod Steps
 pub mod Wounds
 pub mod Cycle
+pub mod Kinds
+pub mod LeafOps
+pub mod InnerOps

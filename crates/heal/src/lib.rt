@@ -1,54 +1,134 @@
-// Healing upward after an item went, as the crate's path.rs has it: the cut, the cycle of three, and the leaf at the bottom.
+// Healing upward after an item went, as the crate's path.rs has it: the cut, the balance with the right sibling, the empty node, and the leaf at the bottom.
 #![tactic(auto)]
 
-ghost use Rattle.std.specs.Prelude.{◌-◌, ◌<◌};
+ghost use Rattle.std.specs.Prelude.{◌≡◌, List, ◌-◌, ◌<◌, ℕ, suc, get_or};
 ghost use Rattle.forest.specs.Sizes.{leaf_cap};
-ghost use Rattle.crit.specs.Asks.{Route, Leaves};
-ghost use Rattle.heal.specs.Steps.{leaf_ops, inner_ops, leaf_front, fronted, taken};
-ghost use Rattle.heal.specs.Cycle.{inner_kind, leaf_kind, stayed, emptied, under, AskEmpty, AskHeal, AskJoin, AskJoinLeaf, AskFront, Joined, Cuts, Mends, AskPair};
+ghost use Rattle.forest.specs.Pairs.{Item};
+ghost use Rattle.crit.specs.Asks.{Leaves};
+ghost use Rattle.node.specs.Nodes.{Leaf, Inner, status_of, balance_of};
 ghost use Rattle.node.specs.declared.Removed.{Removed};
+ghost use Rattle.heal.specs.Steps.{leaf_ops, inner_ops, leaf_front, fronted, taken, both_pairs, both};
+ghost use Rattle.heal.specs.Cycle.{Kind, inner_kind, leaf_kind, stayed, emptied, under, AskEmpty, AskHeal, AskJoin, AskFront, AskCut, Joined, Cuts, Mends, Settles, AskPair};
+ghost use Rattle.heal.specs.Kinds.{HealLaws};
+ghost use Rattle.heal.specs.LeafOps.{leaf_heals};
+ghost use Rattle.heal.specs.InnerOps.{inner_heals};
 
 use forest::Cursor;
-use node::Removed;
+use node::{Balanced, Cut, Removed};
 
-// The parent of the node at a level loses that child.
-fn cut_parent(ws: &mut [u32], t: usize, c: Cursor, level: usize) -> Removed
-    requires { Route ws.old t c level × (0 < level) }
-    ensures { Cuts inner_kind ws.old ws.new t c (level - 1) result }
+// A kind of node, and what healing needs of it.
+trait Heals {
+    // What the first word adds to the number of items.
+    const TAG: u32;
+
+    ghost TAG: { ℕ };
+
+    // The operations on such a node's words.
+    ghost kind: { Kind };
+
+    // The words are those of such a node.
+    ghost Is: { List ℕ → Type 0 };
+
+    // The items of two neighbours with the key between them.
+    ghost both: { List ℕ → List ℕ → ℕ → List Item };
+
+    fn remove(w: [u32; 16], at: usize) -> Cut
+        requires { Is w × (at < get_or w 0 0 - TAG) }
+        ensures { (result.words ≡ kind.ops.cut w at) × (result.status ≡ status_of kind.cap at (get_or w 0 0 - suc TAG)) };
+
+    fn balance(w: [u32; 16], v: [u32; 16], key: u32) -> Balanced
+        requires { Is w × Is v }
+        ensures { result ≡ balance_of kind.words kind.cap (both w v key) };
+
+    // They do to items what they should.
+    ghost heals: { HealLaws kind TAG both Is };
+}
+
+struct LeafNode;
+
+impl Heals for LeafNode {
+    const TAG: u32 = 32;
+
+    ghost TAG = { 32 };
+
+    ghost kind = { leaf_kind };
+
+    ghost Is = { Leaf };
+
+    ghost both = { both_pairs };
+
+    ghost heals = { leaf_heals };
+
+    fn remove(w: [u32; 16], at: usize) -> Cut {
+        node::leaf_remove(w, at)
+    }
+
+    fn balance(w: [u32; 16], v: [u32; 16], _key: u32) -> Balanced {
+        node::leaf_balance(w, v)
+    }
+}
+
+struct InnerNode;
+
+impl Heals for InnerNode {
+    const TAG: u32 = 15;
+
+    ghost TAG = { 15 };
+
+    ghost kind = { inner_kind };
+
+    ghost Is = { Inner };
+
+    ghost both = { both };
+
+    ghost heals = { inner_heals };
+
+    fn remove(w: [u32; 16], at: usize) -> Cut {
+        node::inner_remove(w, at)
+    }
+
+    fn balance(w: [u32; 16], v: [u32; 16], key: u32) -> Balanced {
+        node::inner_balance(w, v, key)
+    }
+}
+
+// The node at a level loses the item that the path goes through.
+fn cut<K: Heals>(ws: &mut [u32], t: usize, c: Cursor, level: usize) -> Removed
+    requires { AskCut K.kind ws.old t c level }
+    ensures { Cuts K.kind ws.old ws.new t c level result }
 {
-    let l = level - 1;
-    let n = c.nodes[l];
-    let p = c.places[l] as usize;
+    let n = c.nodes[level];
+    let p = c.places[level] as usize;
     let w = pool::load(ws, t, n);
-    let cut = node::inner_remove(w, p);
+    let cut = K::remove(w, p);
     let words = cut.words;
     pool::store(ws, t, n, words);
     cut.status
 }
 
-// With no right sibling an inner node stays small; off the end if its last child went.
-fn no_right(ws: &[u32], t: usize, c: Cursor, level: usize) -> Cursor
-    requires { AskHeal inner_kind ws.now t c Removed.Underflow level }
-    ensures { Leaves (λ s. stayed inner_kind s level) ws.now ws.now t c result }
+// With no right sibling a node stays small; off the end if its last item went.
+fn no_right<K: Heals>(ws: &[u32], t: usize, c: Cursor, level: usize) -> Cursor
+    requires { AskHeal K.kind ws.now t c Removed.Underflow level }
+    ensures { Leaves (λ s. stayed K.kind s level) ws.now ws.now t c result }
 {
     let n = c.nodes[level];
-    let p = c.places[level] as usize;
     let w = pool::load(ws, t, n);
-    if p + 15 < w[0] as usize {
+    let left = w[0] - K::TAG;
+    if c.places[level] < left {
         return c;
     }
     crit::off_end(c)
 }
 
-// An inner node gives all its children to its right sibling, or they share; was it all?
-fn join(ws: &mut [u32], t: usize, c: Cursor, level: usize, key: u32, node: u32) -> bool
-    requires { AskJoin inner_kind ws.old t c level key node }
-    ensures { Joined inner_kind ws.old ws.new t c level result }
+// A node gives all its items to its right sibling, or they share; was it all?
+fn join<K: Heals>(ws: &mut [u32], t: usize, c: Cursor, level: usize, key: u32, node: u32) -> bool
+    requires { AskJoin K.kind ws.old t c level key node }
+    ensures { Joined K.kind ws.old ws.new t c level result }
 {
     let n = c.nodes[level];
     let w = pool::load(ws, t, n);
     let v = pool::load(ws, t, node);
-    let b = node::inner_balance(w, v, key);
+    let b = K::balance(w, v, key);
     let right = b.right;
     if b.all {
         pool::store(ws, t, node, right);
@@ -62,37 +142,34 @@ fn join(ws: &mut [u32], t: usize, c: Cursor, level: usize, key: u32, node: u32) 
     false
 }
 
-// After a child of the node at a level went: checks its health and rebalances as needed.
-#[cycle(empty_node_heal_level_underflowed_node)]
-fn heal_level(ws: &mut [u32], t: usize, c: Cursor, status: Removed, level: usize) -> Cursor
-    requires { AskHeal inner_kind ws.old t c status level }
-    ensures { Mends inner_kind ws.old ws.new t c result status level }
+// The node at a level has underflowed: it balances with its right sibling; None if it is empty then.
+fn underflowed_node<K: Heals>(ws: &mut [u32], t: usize, c: Cursor, level: usize) -> Option<Cursor>
+    requires { AskHeal K.kind ws.old t c Removed.Underflow level }
+    ensures { Settles (λ vs d. Leaves (under K.kind level) ws.old vs t c d) ws.new t c level result }
 {
-    match status {
-        Removed::Healthy => c,
-        Removed::Rightmost => crit::next_node(ws, t, c, level),
-        Removed::Underflow => underflowed_node(ws, t, c, level),
-        Removed::Empty => empty_node(ws, t, c, level),
+    let Some((key, node)) = crit::right_sibling(ws, t, c, level) else {
+        return Some(no_right::<K>(ws, t, c, level));
+    };
+    if join::<K>(ws, t, c, level, key, node) {
+        return None;
     }
+    Some(c)
 }
 
-// The node at a level has underflowed: it balances with its right sibling.
-#[cycle(empty_node_heal_level_underflowed_node)]
-fn underflowed_node(ws: &mut [u32], t: usize, c: Cursor, level: usize) -> Cursor
-    requires { AskHeal inner_kind ws.old t c Removed.Underflow level }
-    ensures { Leaves (under inner_kind level) ws.old ws.new t c result }
+// After an item of the node at a level went: checks its health and rebalances as needed; None if it is empty then.
+fn heal_level<K: Heals>(ws: &mut [u32], t: usize, c: Cursor, status: Removed, level: usize) -> Option<Cursor>
+    requires { AskHeal K.kind ws.old t c status level }
+    ensures { Settles (λ vs d. Mends K.kind ws.old vs t c d status level) ws.new t c level result }
 {
-    if let Some((key, node)) = crit::right_sibling(ws, t, c, level) {
-        if join(ws, t, c, level, key, node) {
-            return empty_node(ws, t, c, level);
-        }
-        return c;
+    match status {
+        Removed::Healthy => Some(c),
+        Removed::Rightmost => Some(crit::next_node(ws, t, c, level)),
+        Removed::Underflow => underflowed_node::<K>(ws, t, c, level),
+        Removed::Empty => None,
     }
-    no_right(ws, t, c, level)
 }
 
 // The node at a level is empty: it is freed, and its parent loses it.
-#[cycle(empty_node_heal_level_underflowed_node)]
 fn empty_node(ws: &mut [u32], t: usize, c: Cursor, level: usize) -> Cursor
     requires { AskEmpty ws.old t c level }
     ensures { Leaves (emptied level) ws.old ws.new t c result }
@@ -103,86 +180,13 @@ fn empty_node(ws: &mut [u32], t: usize, c: Cursor, level: usize) -> Cursor
         return crit::off_end(c);
     }
     let near = crit::right_sibling(ws, t, c, level);
-    let status = cut_parent(ws, t, c, level);
-    let d = heal_level(ws, t, c, status, level - 1);
+    let l = level - 1;
+    let status = cut::<InnerNode>(ws, t, c, l);
+    let d = match heal_level::<InnerNode>(ws, t, c, status, l) {
+        Some(d) => d,
+        None => empty_node(ws, t, c, l),
+    };
     crit::through_right(d, level, near)
-}
-
-// With no right sibling a leaf stays small; off the end if its last pair went.
-fn no_right_leaf(ws: &[u32], t: usize, c: Cursor, level: usize) -> Cursor
-    requires { AskHeal leaf_kind ws.now t c Removed.Underflow level }
-    ensures { Leaves (λ s. stayed leaf_kind s level) ws.now ws.now t c result }
-{
-    let n = c.nodes[level];
-    let p = c.places[level] as usize;
-    let w = pool::load(ws, t, n);
-    if p + 32 < w[0] as usize {
-        return c;
-    }
-    crit::off_end(c)
-}
-
-// A leaf gives all its pairs to its right sibling, or they share; was it all?
-fn join_leaf(ws: &mut [u32], t: usize, c: Cursor, level: usize, node: u32) -> bool
-    requires { AskJoinLeaf ws.old t c level node }
-    ensures { Joined leaf_kind ws.old ws.new t c level result }
-{
-    let n = c.nodes[level];
-    let w = pool::load(ws, t, n);
-    let v = pool::load(ws, t, node);
-    let b = node::leaf_balance(w, v);
-    let right = b.right;
-    if b.all {
-        pool::store(ws, t, node, right);
-        crit::hand_crit_key(ws, t, c, level);
-        return true;
-    }
-    let left = b.left;
-    pool::store(ws, t, n, left);
-    pool::store(ws, t, node, right);
-    crit::update_right_crit_key(ws, t, c, level, b.key);
-    false
-}
-
-// The leaf has underflowed: it balances with its right sibling.
-fn underflowed_leaf(ws: &mut [u32], t: usize, c: Cursor, level: usize) -> Cursor
-    requires { AskHeal leaf_kind ws.old t c Removed.Underflow level }
-    ensures { Leaves (under leaf_kind level) ws.old ws.new t c result }
-{
-    if let Some((_, node)) = crit::right_sibling(ws, t, c, level) {
-        if join_leaf(ws, t, c, level, node) {
-            return empty_node(ws, t, c, level);
-        }
-        return c;
-    }
-    no_right_leaf(ws, t, c, level)
-}
-
-// The leaf level: after a pair of the leaf went.
-fn heal_leaf(ws: &mut [u32], t: usize, c: Cursor, status: Removed, level: usize) -> Cursor
-    requires { AskHeal leaf_kind ws.old t c status level }
-    ensures { Mends leaf_kind ws.old ws.new t c result status level }
-{
-    match status {
-        Removed::Healthy => c,
-        Removed::Rightmost => crit::next_node(ws, t, c, level),
-        Removed::Underflow => underflowed_leaf(ws, t, c, level),
-        Removed::Empty => empty_node(ws, t, c, level),
-    }
-}
-
-// The leaf loses the pair that the cursor is on.
-fn cut_leaf(ws: &mut [u32], t: usize, c: Cursor, level: usize) -> Removed
-    requires { AskPair ws.old t c level }
-    ensures { Cuts leaf_kind ws.old ws.new t c level result }
-{
-    let n = c.nodes[level];
-    let p = c.places[level] as usize;
-    let w = pool::load(ws, t, n);
-    let cut = node::leaf_remove(w, p);
-    let words = cut.words;
-    pool::store(ws, t, n, words);
-    cut.status
 }
 
 // If the front pair of the leaf went and another is the first, the key before the leaf becomes that one's.
@@ -206,7 +210,10 @@ pub fn remove_pair(ws: &mut [u32], t: usize, c: Cursor, level: usize) -> Cursor
     requires { AskPair ws.old t c level }
     ensures { Leaves (taken level) ws.old ws.new t c result }
 {
-    let status = cut_leaf(ws, t, c, level);
+    let status = cut::<LeafNode>(ws, t, c, level);
     update_front(ws, t, c, level);
-    heal_leaf(ws, t, c, status, level)
+    match heal_level::<LeafNode>(ws, t, c, status, level) {
+        Some(d) => d,
+        None => empty_node(ws, t, c, level),
+    }
 }
