@@ -10,7 +10,7 @@ ghost use Rattle.node.specs.declared.Removed.{Removed};
 
 use crit::Near;
 use forest::Cursor;
-use node::Removed;
+use node::{InnerNode, LeafNode, Removed};
 
 // The parent of the node at a level loses that child.
 fn cut_parent(ws: &mut [u32], t: usize, c: Cursor, level: usize) -> Removed
@@ -21,7 +21,7 @@ fn cut_parent(ws: &mut [u32], t: usize, c: Cursor, level: usize) -> Removed
     let n = c.nodes[l];
     let p = c.places[l] as usize;
     let w = pool::load(ws, t, n);
-    let cut = node::inner_remove(w, p);
+    let cut = node::remove::<InnerNode>(w, p);
     let words = cut.words;
     pool::store(ws, t, n, words);
     cut.status
@@ -51,7 +51,7 @@ fn join(ws: &mut [u32], t: usize, c: Cursor, level: usize, key: u32, node: u32) 
     let n = c.nodes[level];
     let w = pool::load(ws, t, n);
     let v = pool::load(ws, t, node);
-    let b = node::inner_balance(w, v, key);
+    let b = node::balance::<InnerNode>(w, v, key);
     let right = b.right;
     if b.all {
         pool::store(ws, t, node, right);
@@ -145,7 +145,7 @@ fn join_leaf(ws: &mut [u32], t: usize, c: Cursor, level: usize, node: u32) -> bo
     let n = c.nodes[level];
     let w = pool::load(ws, t, n);
     let v = pool::load(ws, t, node);
-    let b = node::leaf_balance(w, v);
+    let b = node::balance::<LeafNode>(w, v, 0);
     let right = b.right;
     if b.all {
         pool::store(ws, t, node, right);
@@ -202,7 +202,7 @@ fn cut_leaf(ws: &mut [u32], t: usize, c: Cursor, level: usize) -> Removed
     let n = c.nodes[level];
     let p = c.places[level] as usize;
     let w = pool::load(ws, t, n);
-    let cut = node::leaf_remove(w, p);
+    let cut = node::remove::<LeafNode>(w, p);
     let words = cut.words;
     pool::store(ws, t, n, words);
     cut.status

@@ -11,26 +11,26 @@ load-w-requires c = JoinLaws.here_placed inner_kind inner_law InnerLaws.inner_le
 pub load-v-requires : goal.load-v-requires
 load-v-requires c = JoinLaws.mate_placed inner_kind inner_law InnerLaws.inner_length c.requires
 
-pub inner_balance-b-requires : goal.inner_balance-b-requires
-inner_balance-b-requires c = (InnerLaws.held_inner (JoinLaws.here inner_kind inner_law InnerLaws.inner_length c.requires.heal) _ (JoinLaws.here_words inner_kind inner_law InnerLaws.inner_length c.requires.heal _ c.load-w.ensures), InnerLaws.held_inner (JoinLaws.mate inner_kind inner_law InnerLaws.inner_length c.requires) _ (JoinLaws.mate_words inner_kind inner_law InnerLaws.inner_length c.requires _ c.load-v.ensures))
+pub balance-b-requires : goal.balance-b-requires
+balance-b-requires c = (InnerLaws.held_inner (JoinLaws.here inner_kind inner_law InnerLaws.inner_length c.requires.heal) _ (JoinLaws.here_words inner_kind inner_law InnerLaws.inner_length c.requires.heal _ c.load-w.ensures), InnerLaws.held_inner (JoinLaws.mate inner_kind inner_law InnerLaws.inner_length c.requires) _ (JoinLaws.mate_words inner_kind inner_law InnerLaws.inner_length c.requires _ c.load-v.ensures))
 
 pub store-requires : goal.store-requires
 store-requires c = JoinLaws.mate_placed inner_kind inner_law InnerLaws.inner_length c.requires
 
 pub hand_crit_key-requires : goal.hand_crit_key-requires
-hand_crit_key-requires c = JoinLaws.way_gathered inner_kind inner_law InnerLaws.inner_length c.requires _ _ c.load-w.ensures c.load-v.ensures _ c.inner_balance-b.result c.inner_balance-b.ensures (InnerLaws.both-length c.load-w.result c.load-v.result c.args.key) refl refl refl refl _ c.store.ensures
+hand_crit_key-requires c = JoinLaws.way_gathered inner_kind inner_law InnerLaws.inner_length c.requires _ _ c.load-w.ensures c.load-v.ensures _ c.balance-b.result c.balance-b.ensures (InnerLaws.both-length c.load-w.result c.load-v.result c.args.key) refl refl refl refl _ c.store.ensures
 
 pub returns-then-b : goal.returns-then-b
-returns-then-b c = JoinLaws.joined_all inner_kind inner_law InnerLaws.inner_length c.requires _ _ c.load-w.ensures c.load-v.ensures _ c.inner_balance-b.result c.inner_balance-b.ensures (InnerLaws.both-length c.load-w.result c.load-v.result c.args.key) refl refl refl refl _ c.store.ensures c.if-b.true c.hand_crit_key.ensures
+returns-then-b c = JoinLaws.joined_all inner_kind inner_law InnerLaws.inner_length c.requires _ _ c.load-w.ensures c.load-v.ensures _ c.balance-b.result c.balance-b.ensures (InnerLaws.both-length c.load-w.result c.load-v.result c.args.key) refl refl refl refl _ c.store.ensures c.if-b.true c.hand_crit_key.ensures
 
 pub store-requires-2 : goal.store-requires-2
 store-requires-2 c = JoinLaws.here_placed inner_kind inner_law InnerLaws.inner_length c.requires.heal
 
 pub store-requires-3 : goal.store-requires-3
-store-requires-3 c = JoinLaws.left_placed inner_kind inner_law InnerLaws.inner_length c.requires _ _ c.load-w.ensures c.load-v.ensures _ c.inner_balance-b.result c.inner_balance-b.ensures (InnerLaws.both-length c.load-w.result c.load-v.result c.args.key) refl refl refl refl c.if-b.false _ _ c.store-2.ensures refl
+store-requires-3 c = JoinLaws.left_placed inner_kind inner_law InnerLaws.inner_length c.requires _ _ c.load-w.ensures c.load-v.ensures _ c.balance-b.result c.balance-b.ensures (InnerLaws.both-length c.load-w.result c.load-v.result c.args.key) refl refl refl refl c.if-b.false _ _ c.store-2.ensures refl
 
 pub update_right_crit_key-requires : goal.update_right_crit_key-requires
-update_right_crit_key-requires c = JoinLaws.way_shared inner_kind inner_law InnerLaws.inner_length c.requires _ _ c.load-w.ensures c.load-v.ensures _ c.inner_balance-b.result c.inner_balance-b.ensures (InnerLaws.both-length c.load-w.result c.load-v.result c.args.key) refl refl refl refl c.if-b.false _ _ c.store-2.ensures c.store-3.ensures
+update_right_crit_key-requires c = JoinLaws.way_shared inner_kind inner_law InnerLaws.inner_length c.requires _ _ c.load-w.ensures c.load-v.ensures _ c.balance-b.result c.balance-b.ensures (InnerLaws.both-length c.load-w.result c.load-v.result c.args.key) refl refl refl refl c.if-b.false _ _ c.store-2.ensures c.store-3.ensures
 
 pub returns : goal.returns
-returns c = JoinLaws.joined_some inner_kind inner_law InnerLaws.inner_length c.requires _ _ c.load-w.ensures c.load-v.ensures _ c.inner_balance-b.result c.inner_balance-b.ensures (InnerLaws.both-length c.load-w.result c.load-v.result c.args.key) refl refl refl refl c.if-b.false _ _ c.store-2.ensures c.store-3.ensures c.update_right_crit_key.ensures
+returns c = JoinLaws.joined_some inner_kind inner_law InnerLaws.inner_length c.requires _ _ c.load-w.ensures c.load-v.ensures _ c.balance-b.result c.balance-b.ensures (InnerLaws.both-length c.load-w.result c.load-v.result c.args.key) refl refl refl refl c.if-b.false _ _ c.store-2.ensures c.store-3.ensures c.update_right_crit_key.ensures
