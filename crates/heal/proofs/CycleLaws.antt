@@ -31,7 +31,7 @@ use Rattle.crit.proofs.SpeltLaws.{same_count}
 use Rattle.crit.proofs.NextLaws.{spelt_off}
 use Rattle.heal.proofs.HealUp.{Lawful}
 use Rattle.heal.proofs.HealReady.{ready_cut, ready_none, ready_merge, par_in, len-C, path_c, once_row}
-use Rattle.heal.specs.InnerOps.{inner_law}
+use Rattle.heal.specs.KindLaws.{inner_law}
 use Rattle.heal.proofs.FreeLaws.{spelt_freeable, spelt_freed, same_free, room, within_named}
 use Rattle.forest.proofs.WordLaws.{count-append}
 use Rattle.forest.proofs.CountLaws.{small}

@@ -4,12 +4,12 @@ use mathlib.Core.List.{List, [], ◌∷◌, ◌++◌}
 use mathlib.Core.Bool.{Bool, true, false, cond}
 use Prim.Native.Nat.{ℕ, zero, suc, ◌+◌, ◌-◌, ◌*◌, ◌≤◌, ◌<◌, min}
 use native.Mathlib.Omega.{arith}
-use lib.ListN.{length, take, drop, get_or, length-append, length-take, length-drop}
+use lib.ListN.{length, take, get_or, length-append, length-take, length-drop}
 use lib.Dec.{ltb, eqb, leb}
 use borrow.Author.Tests.{ltb-true, ltb-false}
 use Rattle.forest.specs.Lists.{remove_at, sum, count, pad, parent, offset}
 use Rattle.forest.specs.Pairs.{Item}
-use Rattle.forest.specs.Rows.{Node, Row, size, front, nums, sizes, items_at, drop_row, alone, heal, without}
+use Rattle.forest.specs.Rows.{Node, Row, size, nums, sizes, items_at, drop_row, alone, heal, without}
 use Rattle.forest.specs.Trees.{numbers, drop_at, drop_up, freed_up, lost}
 use Rattle.forest.specs.Pools.{push_all}
 use Rattle.forest.proofs.ListLaws.{is, isnt, test, cons_eq, map-append}

@@ -2,11 +2,10 @@
 use Prim.Native.Nat.{ℕ, ◌-◌, ◌<◌}
 use mathlib.Core.List.{List}
 use native.Mathlib.Omega.{arith}
-use lib.ListN.{get_or}
 use Rattle.forest.specs.declared.Cursor.{Cursor}
 use Rattle.crit.specs.Asks.{Route}
 use Rattle.heal.specs.Cycle.{inner_kind, AskCut}
-use Rattle.crit.proofs.WayLaws.{Inside, way_at}
+use Rattle.crit.proofs.WayLaws.{way_at}
 
 pub parent_asks : {ws : List ℕ} {t : ℕ} {c : Cursor} {level : ℕ} → Route ws t c level → 0 < level → AskCut inner_kind ws t c (level - 1)
 parent_asks {level} y h =

@@ -1,6 +1,6 @@
 -- PROOFS. A cut, a node that stays small, two neighbours that join: over the kind of the nodes
 use mathlib.Core.Path.{◌≡◌, refl, sym, ap, ◌∙◌, subst}
-use mathlib.Core.List.{List}
+use mathlib.Core.List.{List, ◌++◌}
 use mathlib.Core.Bool.{true, false, true≢false}
 use Rattle.std.specs.Prelude.{Some}
 use Prim.Native.Nat.{ℕ, suc, ◌+◌, ◌-◌, ◌≤◌, ◌<◌}
@@ -15,7 +15,7 @@ use Rattle.forest.specs.declared.Cursor.{Cursor}
 use Rattle.forest.proofs.ListLaws.{is, isnt, test, length-remove_at, offset_lt}
 use Rattle.forest.proofs.RowLaws.{fill_at}
 use Rattle.pool.specs.Stores.{put, block, with_block, Placed}
-use Rattle.node.specs.Nodes.{status_of, keep, balance_of}
+use Rattle.node.specs.Nodes.{status_of, keep, keyed, cut_of, balance_of}
 use Rattle.node.specs.declared.Balanced.{Balanced}
 use Rattle.node.specs.declared.Removed.{Removed}
 use Rattle.node.specs.declared.Removed.TheVariants.{Underflow}
@@ -31,9 +31,13 @@ use Rattle.heal.proofs.HealUp.{Lawful}
 use Rattle.heal.proofs.WoundLaws.{Held, held_here, held_mate}
 use Rattle.heal.proofs.CycleLaws.{heal_way_put, some_left}
 
-module _ {k : Kind} {tag : ℕ} {both : List ℕ → List ℕ → ℕ → List Item} {Is : List ℕ → Type 0} (laws : HealLaws k tag both Is) where
+module _ {k : Kind} {cap tag hid : ℕ} {words : List Item → List ℕ} {items : List ℕ → List Item} {Is : List ℕ → Type 0} (laws : HealLaws k cap tag hid words items Is) where
   abbrev law : Lawful k.ops k.words k.cap k.low
   law = laws.lawful
+
+  -- the items of two neighbours with a key between them
+  abbrev both : List ℕ → List ℕ → ℕ → List Item
+  both w v key = items w ++ keyed hid key (items v)
 
   -- the words of a node without an item
   cut_length : (xs : List Item) (p : ℕ) → p < length xs → length xs ≤ k.cap → length (k.ops.cut (k.words xs) p) ≡ 16
@@ -71,14 +75,14 @@ module _ {k : Kind} {tag : ℕ} {both : List ℕ → List ℕ → ℕ → List I
       pub cut_asks : Is w × (get_or c.places l 0 < get_or w 0 0 - tag)
       cut_asks = rw (e ∙ cut-block) (laws.is a.items (omega (arith, cut_place)) a.room, omega (arith, cut_place, laws.counts a.items (omega (arith, cut_place))))
 
-      pub cuts : {vs cw : List ℕ} {status : Removed} → vs ≡ with_block ws t (get_or c.nodes l 0) cw → cw ≡ k.ops.cut w (get_or c.places l 0) →
-          status ≡ status_of k.cap (get_or c.places l 0) (get_or w 0 0 - suc tag) → Cuts k ws vs t c l status
+      pub cuts : {vs cw : List ℕ} {status : Removed} → vs ≡ with_block ws t (get_or c.nodes l 0) cw → cw ≡ cut_of tag words items w (get_or c.places l 0) →
+          status ≡ status_of cap (get_or c.places l 0) (get_or w 0 0 - suc tag) → Cuts k ws vs t c l status
       cuts {vs} {cw} {status} v0 cq q0 =
           let lo : 1 ≤ get_or c.nodes l 0 = rw cut_name a.some in
           let hi : get_or c.nodes l 0 ≤ a.mem.count = rw cut_name a.few in
           let n0 : get_or w 0 0 ≡ tag + length a.items = rw (e ∙ cut-block) (laws.counts a.items (omega (arith, cut_place))) in
-          let v : vs ≡ with_block ws t (get_or c.nodes l 0) (k.ops.cut (k.words a.items) (get_or c.places l 0)) = v0 ∙ rw (cq, e, cut-block) in
-          let q : status ≡ status_of k.cap (get_or c.places l 0) (length a.items - 1) = q0 ∙ ap (status_of k.cap (get_or c.places l 0)) (omega (arith, n0)) in
+          let v : vs ≡ with_block ws t (get_or c.nodes l 0) (k.ops.cut (k.words a.items) (get_or c.places l 0)) = v0 ∙ rw (cq, ← (laws.cut w (get_or c.places l 0)), e, cut-block) in
+          let q : status ≡ status_of k.cap (get_or c.places l 0) (length a.items - 1) = q0 ∙ rw laws.same_cap (ap (status_of k.cap (get_or c.places l 0)) (omega (arith, n0))) in
           record {
             leaves = λ m sp.
                 let n = sp.nodes l a.deep in
@@ -169,9 +173,12 @@ module _ {k : Kind} {tag : ℕ} {both : List ℕ → List ℕ → ℕ → List I
     hi_of m sp = rw (← (same_count j.heal.spelt sp)) mate.few
 
     -- storing the neighbour's words, and both
-    module _ (w v : List ℕ) (ew : w ≡ block ws t (get_or c.nodes level 0)) (ev : v ≡ block ws t node) (b : Balanced) (eb : b ≡ balance_of k.words k.cap (both w v key)) where
+    module _ (w v : List ℕ) (ew : w ≡ block ws t (get_or c.nodes level 0)) (ev : v ≡ block ws t node) (b : Balanced) (eb0 : b ≡ balance_of words cap (both w v key)) where
       abbrev us : List Item
       us = both w v key
+
+      eb : b ≡ balance_of k.words k.cap us
+      eb = eb0 ∙ rw (laws.same_words, laws.same_cap)
 
       flag : b.all ≡ leb (length us) k.cap
       flag = ap (λ (x : Balanced). x.all) eb ∙ balance_flag k.words k.cap us

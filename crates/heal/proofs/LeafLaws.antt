@@ -1,39 +1,26 @@
 -- PROOFS. Leaves: the cut at the cursor, a leaf that stays small, the pairs of two neighbours
-use mathlib.Core.Path.{◌≡◌, sym, ap, ◌∙◌, subst}
+use mathlib.Core.Path.{◌≡◌, ◌∙◌}
 use mathlib.Core.List.{List, ◌++◌}
-use Prim.Native.Nat.{ℕ, ◌+◌, ◌-◌, ◌≤◌, ◌<◌}
+use Prim.Native.Nat.{ℕ, ◌≤◌, ◌<◌}
 use native.Mathlib.Omega.{arith}
-use lib.ListN.{length, get_or, length-append}
+use lib.ListN.{length, get_or}
 use Rattle.forest.specs.Lists.{count, parent, offset}
 use Rattle.forest.specs.Pairs.{Item}
-use Rattle.forest.specs.Rows.{Row, nums, sizes, items_at}
+use Rattle.forest.specs.Rows.{nums, sizes, items_at}
 use Rattle.forest.specs.Trees.{numbers}
 use Rattle.forest.specs.Pools.{leaf_words}
 use Rattle.forest.specs.declared.Cursor.{Cursor}
 use Rattle.forest.proofs.RowLaws.{fill_at, length-items, parent_there, offset_there}
-use Rattle.pool.specs.Stores.{Store, block, with_block, Placed}
-use Rattle.node.specs.Nodes.{Leaf, leaf_pairs, leaf_cut, status_of}
 use Rattle.node.specs.declared.Removed.{Removed}
-use Rattle.node.specs.declared.Removed.TheVariants.{Underflow}
-use Rattle.node.proofs.Words.{leaf_is, length_pairs}
 use Rattle.crit.specs.Paths.{num_at}
-use Rattle.crit.specs.Asks.{moved, Leaves, off_end}
-use Rattle.heal.specs.Steps.{leaf_ops}
-use Rattle.heal.specs.Cycle.{leaf_kind, stayed, AskHeal, AskFront, AskCut, Cuts, AskPair}
+use Rattle.crit.specs.Asks.{moved}
+use Rattle.heal.specs.Cycle.{leaf_kind, AskFront, AskCut, Cuts, AskPair}
 use Rattle.crit.proofs.HealMem
 use Rattle.crit.proofs.HealPath
-use Rattle.crit.proofs.SpeltLaws.{spelt_block, spelt_placed}
-use Rattle.heal.proofs.HealUp.{Lawful}
-use Rattle.heal.specs.LeafOps
 use Rattle.heal.proofs.FreeLaws.{within_named}
-use Rattle.heal.proofs.WoundLaws.{Held}
-use Rattle.heal.proofs.JoinLaws
 use Rattle.heal.proofs.HealReady.{within_once}
 pub use Rattle.forest.proofs.CountLaws.{leaf_length}
 use Rattle.forest.proofs.WordLaws.{count-append}
-
-pub leaf_law : Lawful leaf_ops leaf_words 7 3
-leaf_law = LeafOps.leaf_law 3 (omega arith) (omega arith)
 
 -- the leaf at the cursor
 module _ {ws : List ℕ} {t : ℕ} {c : Cursor} {level : ℕ} (a : AskPair ws t c level) where

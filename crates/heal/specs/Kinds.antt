@@ -3,7 +3,7 @@ use Rattle.std.specs.Prelude.{◌≡◌, List, [], ◌++◌, ℕ, suc, ◌+◌, 
 use Rattle.forest.specs.Lists.{remove_at, pad}
 use Rattle.forest.specs.Pairs.{Item}
 use Rattle.forest.specs.Rows.{front}
-use Rattle.node.specs.Nodes.{keep}
+use Rattle.node.specs.Nodes.{keep, keyed, cut_of}
 use Rattle.heal.specs.Steps.{Ops}
 use Rattle.heal.specs.Cycle.{Kind}
 
@@ -23,15 +23,18 @@ pub record Lawful (o : Ops) (enc : List Item → List ℕ) (cap low : ℕ) : Typ
   pub mid_is : (xs ys : List Item) → 1 ≤ length xs → length xs ≤ cap → length ys ≤ cap → cap < length xs + length ys →
       o.mid (enc xs) (enc ys) (front ys) ≡ front (drop (keep (xs ++ ys)) (xs ++ ys))
 
--- the same of a kind, whose first word says how many items there are; `both` are the items of two neighbours with the key between them
-pub record HealLaws (k : Kind) (tag : ℕ) (both : List ℕ → List ℕ → ℕ → List Item) (Is : List ℕ → Type 0) : Type 0 where
+-- the same of a kind, whose operations are those of the nodes of capacity c, whose first word adds a to the number of items, and of which i first keys are stored nowhere
+pub record HealLaws (k : Kind) (c a i : ℕ) (words : List Item → List ℕ) (items : List ℕ → List Item) (Is : List ℕ → Type 0) : Type 0 where
   pub lawful : Lawful k.ops k.words k.cap k.low
-  pub sixteen : (xs : List Item) → length (k.words xs) ≡ 16
+  pub same_cap : c ≡ k.cap
+  pub same_words : words ≡ k.words
   pub is : (xs : List Item) → 1 ≤ length xs → length xs ≤ k.cap → Is (k.words xs)
-  pub counts : (xs : List Item) → 1 ≤ length xs → get_or (k.words xs) 0 0 ≡ tag + length xs
-  pub entries : (w : List ℕ) → k.ops.entries w ≡ get_or w 0 0 - tag
-  pub size : (w v : List ℕ) (key : ℕ) → length (both w v key) ≡ k.ops.entries w + k.ops.entries v
-  pub gather : (w v : List ℕ) (key : ℕ) → k.ops.gather w v key ≡ k.words (both w v key)
-  pub left : (w v : List ℕ) (key : ℕ) → k.ops.left w v key ≡ k.words (take (keep (both w v key)) (both w v key))
-  pub right : (w v : List ℕ) (key : ℕ) → k.ops.right w v key ≡ k.words (drop (keep (both w v key)) (both w v key))
-  pub mid : (w v : List ℕ) (key : ℕ) → k.ops.mid w v key ≡ front (drop (keep (both w v key)) (both w v key))
+  pub sixteen : (xs : List Item) → length (k.words xs) ≡ 16
+  pub counts : (xs : List Item) → 1 ≤ length xs → get_or (k.words xs) 0 0 ≡ a + length xs
+  pub entries : (w : List ℕ) → k.ops.entries w ≡ get_or w 0 0 - a
+  pub cut : (w : List ℕ) (o : ℕ) → k.ops.cut w o ≡ cut_of a words items w o
+  pub size : (w v : List ℕ) (key : ℕ) → length (items w ++ keyed i key (items v)) ≡ k.ops.entries w + k.ops.entries v
+  pub gather : (w v : List ℕ) (key : ℕ) → k.ops.gather w v key ≡ k.words (items w ++ keyed i key (items v))
+  pub left : (w v : List ℕ) (key : ℕ) → k.ops.left w v key ≡ k.words (take (keep (items w ++ keyed i key (items v))) (items w ++ keyed i key (items v)))
+  pub right : (w v : List ℕ) (key : ℕ) → k.ops.right w v key ≡ k.words (drop (keep (items w ++ keyed i key (items v))) (items w ++ keyed i key (items v)))
+  pub mid : (w v : List ℕ) (key : ℕ) → k.ops.mid w v key ≡ front (drop (keep (items w ++ keyed i key (items v))) (items w ++ keyed i key (items v)))

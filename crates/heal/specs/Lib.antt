@@ -2,5 +2,4 @@ pub mod Steps
 pub mod Wounds
 pub mod Cycle
 pub mod Kinds
-pub mod LeafOps
-pub mod InnerOps
+pub mod KindLaws

@@ -20,10 +20,6 @@ pub record Ops : Type 0 where
   pub right : List ℕ → List ℕ → ℕ → List ℕ
   pub mid : List ℕ → List ℕ → ℕ → ℕ
 
--- the pairs of two leaves; the key between them is not needed
-abbrev pub both_pairs : List ℕ → List ℕ → ℕ → List Item
-both_pairs w v k = leaf_pairs w ++ leaf_pairs v
-
 -- those of a leaf
 abbrev pub leaf_ops : Ops
 leaf_ops = record {

@@ -1,95 +1,38 @@
 // Healing upward after an item went, as the crate's path.rs has it: the cut, the balance with the right sibling, the empty node, and the leaf at the bottom.
 #![tactic(auto)]
 
-ghost use Rattle.std.specs.Prelude.{◌≡◌, List, ◌-◌, ◌<◌, ℕ, suc, get_or};
+ghost use Rattle.std.specs.Prelude.{◌-◌, ◌<◌};
 ghost use Rattle.forest.specs.Sizes.{leaf_cap};
-ghost use Rattle.forest.specs.Pairs.{Item};
 ghost use Rattle.crit.specs.Asks.{Leaves};
-ghost use Rattle.node.specs.Nodes.{Leaf, Inner, status_of, balance_of};
 ghost use Rattle.node.specs.declared.Removed.{Removed};
-ghost use Rattle.heal.specs.Steps.{leaf_ops, inner_ops, leaf_front, fronted, taken, both_pairs, both};
-ghost use Rattle.heal.specs.Cycle.{Kind, inner_kind, leaf_kind, stayed, emptied, under, AskEmpty, AskHeal, AskJoin, AskFront, AskCut, Joined, Cuts, Mends, Settles, AskPair};
+ghost use Rattle.heal.specs.Steps.{leaf_ops, inner_ops, leaf_front, fronted, taken};
+ghost use Rattle.heal.specs.Cycle;
+ghost use Rattle.heal.specs.Cycle.{inner_kind, leaf_kind, stayed, emptied, under, AskEmpty, AskHeal, AskJoin, AskFront, AskCut, Joined, Cuts, Mends, Settles, AskPair};
 ghost use Rattle.heal.specs.Kinds.{HealLaws};
-ghost use Rattle.heal.specs.LeafOps.{leaf_heals};
-ghost use Rattle.heal.specs.InnerOps.{inner_heals};
+ghost use Rattle.heal.specs.KindLaws.{leaf_heals, inner_heals};
 
 use forest::Cursor;
-use node::{Balanced, Cut, Removed};
+use node::{InnerNode, Kind, LeafNode, Removed};
 
-// A kind of node, and what healing needs of it.
-trait Heals {
-    // What the first word adds to the number of items.
-    const TAG: u32;
+// A kind of node, as healing sees it.
+trait Heals: Kind {
+    // The operations on such a node's words, its capacity and its minimum.
+    ghost kind: { Cycle.Kind };
 
-    ghost TAG: { ℕ };
-
-    // The operations on such a node's words.
-    ghost kind: { Kind };
-
-    // The words are those of such a node.
-    ghost Is: { List ℕ → Type 0 };
-
-    // The items of two neighbours with the key between them.
-    ghost both: { List ℕ → List ℕ → ℕ → List Item };
-
-    fn remove(w: [u32; 16], at: usize) -> Cut
-        requires { Is w × (at < get_or w 0 0 - TAG) }
-        ensures { (result.words ≡ kind.ops.cut w at) × (result.status ≡ status_of kind.cap at (get_or w 0 0 - suc TAG)) };
-
-    fn balance(w: [u32; 16], v: [u32; 16], key: u32) -> Balanced
-        requires { Is w × Is v }
-        ensures { result ≡ balance_of kind.words kind.cap (both w v key) };
-
-    // They do to items what they should.
-    ghost heals: { HealLaws kind TAG both Is };
+    // They are those of the node, and do to items what they should.
+    ghost heals: { HealLaws kind Self.CAPACITY Self.TAG Self.HIDDEN Self.words Self.items Self.Is };
 }
-
-struct LeafNode;
 
 impl Heals for LeafNode {
-    const TAG: u32 = 32;
-
-    ghost TAG = { 32 };
-
     ghost kind = { leaf_kind };
 
-    ghost Is = { Leaf };
-
-    ghost both = { both_pairs };
-
     ghost heals = { leaf_heals };
-
-    fn remove(w: [u32; 16], at: usize) -> Cut {
-        node::leaf_remove(w, at)
-    }
-
-    fn balance(w: [u32; 16], v: [u32; 16], _key: u32) -> Balanced {
-        node::leaf_balance(w, v)
-    }
 }
 
-struct InnerNode;
-
 impl Heals for InnerNode {
-    const TAG: u32 = 15;
-
-    ghost TAG = { 15 };
-
     ghost kind = { inner_kind };
 
-    ghost Is = { Inner };
-
-    ghost both = { both };
-
     ghost heals = { inner_heals };
-
-    fn remove(w: [u32; 16], at: usize) -> Cut {
-        node::inner_remove(w, at)
-    }
-
-    fn balance(w: [u32; 16], v: [u32; 16], key: u32) -> Balanced {
-        node::inner_balance(w, v, key)
-    }
 }
 
 // The node at a level loses the item that the path goes through.
@@ -100,7 +43,7 @@ fn cut<K: Heals>(ws: &mut [u32], t: usize, c: Cursor, level: usize) -> Removed
     let n = c.nodes[level];
     let p = c.places[level] as usize;
     let w = pool::load(ws, t, n);
-    let cut = K::remove(w, p);
+    let cut = node::remove::<K>(w, p);
     let words = cut.words;
     pool::store(ws, t, n, words);
     cut.status
@@ -128,7 +71,7 @@ fn join<K: Heals>(ws: &mut [u32], t: usize, c: Cursor, level: usize, key: u32, n
     let n = c.nodes[level];
     let w = pool::load(ws, t, n);
     let v = pool::load(ws, t, node);
-    let b = K::balance(w, v, key);
+    let b = node::balance::<K>(w, v, key);
     let right = b.right;
     if b.all {
         pool::store(ws, t, node, right);
@@ -157,7 +100,13 @@ fn underflowed_node<K: Heals>(ws: &mut [u32], t: usize, c: Cursor, level: usize)
 }
 
 // After an item of the node at a level went: checks its health and rebalances as needed; None if it is empty then.
-fn heal_level<K: Heals>(ws: &mut [u32], t: usize, c: Cursor, status: Removed, level: usize) -> Option<Cursor>
+fn heal_level<K: Heals>(
+    ws: &mut [u32],
+    t: usize,
+    c: Cursor,
+    status: Removed,
+    level: usize,
+) -> Option<Cursor>
     requires { AskHeal K.kind ws.old t c status level }
     ensures { Settles (λ vs d. Mends K.kind ws.old vs t c d status level) ws.new t c level result }
 {

@@ -1,4 +1,3 @@
-use Prim.Native.Nat.{◌-◌}
 use native.Mathlib.Omega.{arith}
 use Rattle.heal.proofs.CycleLaws
 use Rattle.heal.proofs.InnerLaws

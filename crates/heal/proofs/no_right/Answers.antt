@@ -1,4 +1,3 @@
-use Prim.Native.Nat.{◌<◌}
 use native.Mathlib.Omega.{arith}
 use Rattle.heal.proofs.JoinLaws
 use Rattle.heal.proofs.no_right.Goals as goal
