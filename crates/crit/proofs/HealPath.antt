@@ -2,7 +2,7 @@
 use mathlib.Core.Path.{subst, ◌≡◌, refl, sym, ap, ◌∙◌}
 use mathlib.Core.List.{List, [], ◌∷◌, ◌++◌, map}
 use mathlib.Core.Bool.{true, false}
-use mathlib.Core.Option.{none, some}
+use Rattle.std.specs.Prelude.{Some, None}
 use Prim.Native.Nat.{ℕ, zero, suc, ◌+◌, ◌-◌, ◌≤◌, ◌<◌}
 use native.Mathlib.Omega.{arith}
 use lib.ListN.{length, get_or, set, length-map}
@@ -190,7 +190,7 @@ module _ (st : Store) (ns ps : ℕ → ℕ) where
 
   -- the right neighbour is the next of the row, with its key
   pub right_is : (R : Row) (j : ℕ) (Ss : List Row) → suc j < length R → Stacked R Ss → HoldsUp st Ss → Leads R j Ss ns ps →
-      right_sibling st ns ps (length Ss) ≡ some (get_or (line R) (suc j) (0, 0))
+      right_sibling st ns ps (length Ss) ≡ Some (get_or (line R) (suc j) (0, 0))
   right_is R j [] h s hs p = absurd (omega arith)
   right_is R j (S ∷ Ss) h s hs p =
       let u : sum (sizes S) ≡ length R = stacked-sum R S s.0 in
@@ -204,7 +204,7 @@ module _ (st : Store) (ns ps : ℕ → ℕ) where
             let e : more st ns ps (length Ss) ≡ true = m ∙ lt-ltb (suc (offset (sizes S) j)) (length (items_at S (parent (sizes S) j))) g in
             let q' = rw (y, z) at q in
             simp e (simp (r.words, r.place, inner_key (items_at S (parent (sizes S) j)) (offset (sizes S) j) (omega (arith, r.few)), inner_child (items_at S (parent (sizes S) j)) (suc (offset (sizes S) j)) (omega (arith, r.few)))
-            (ap some q'))
+            (ap Some q'))
         | across x y z ↦
             let e : more st ns ps (length Ss) ≡ false = m ∙ le-ltb (suc (offset (sizes S) j)) (length (items_at S (parent (sizes S) j))) (omega (arith, r.wide)) in
             let n2 : suc (parent (sizes S) j) < length S = rw y at (parent_there S (suc j) (omega arith)) in
@@ -220,14 +220,14 @@ module _ (st : Store) (ns ps : ℕ → ℕ) where
               w,
               inner_child (items_at S (suc (parent (sizes S) j))) 0 (omega arith),
             )
-            (ap some (whole (items_at S (suc (parent (sizes S) j))) one ∙ q'))
+            (ap Some (whole (items_at S (suc (parent (sizes S) j))) one ∙ q'))
       ]
     where
       whole : (xs : List Item) → 1 ≤ length xs → ◌≡◌ {A = Item} (front xs, (get_or xs 0 (0, 0)).1) (get_or xs 0 (0, 0))
       whole [] h = absurd (omega arith)
       whole (x ∷ xs) h = refl
 
-  pub right_none : (R : Row) (j : ℕ) (Ss : List Row) → suc j ≡ length R → Stacked R Ss → HoldsUp st Ss → Leads R j Ss ns ps → right_sibling st ns ps (length Ss) ≡ none
+  pub right_none : (R : Row) (j : ℕ) (Ss : List Row) → suc j ≡ length R → Stacked R Ss → HoldsUp st Ss → Leads R j Ss ns ps → right_sibling st ns ps (length Ss) ≡ None
   right_none R j [] h s hs p = refl
   right_none R j (S ∷ Ss) h s hs p =
       let u : sum (sizes S) ≡ length R = stacked-sum R S s.0 in
@@ -237,7 +237,7 @@ module _ (st : Store) (ns ps : ℕ → ℕ) where
       simp (e, right_none S (parent (sizes S) j) Ss (z.1 ∙ length-map S size) s.2 hs.1 p.2)
 
   -- the critical key is the front of the node; at the far left there is none
-  pub crit_is : (R : Row) (j : ℕ) (Ss : List Row) → suc j < length R → Stacked R Ss → HoldsUp st Ss → Leads R (suc j) Ss ns ps → crit_key st ns ps (length Ss) ≡ some (front (items_at R (suc j)))
+  pub crit_is : (R : Row) (j : ℕ) (Ss : List Row) → suc j < length R → Stacked R Ss → HoldsUp st Ss → Leads R (suc j) Ss ns ps → crit_key st ns ps (length Ss) ≡ Some (front (items_at R (suc j)))
   crit_is R j [] h s hs p = absurd (omega arith)
   crit_is R j (S ∷ Ss) h s hs p =
       let u : sum (sizes S) ≡ length R = stacked-sum R S s.0 in
@@ -248,16 +248,16 @@ module _ (st : Store) (ns ps : ℕ → ℕ) where
       elim (next (sizes S) j (fill_some 4 8 (sizes S) (omega arith) s.1) (omega arith)) [
         | within x y z ↦
             let t : eqb (ps (length Ss)) 0 ≡ false = rw (r.place, z) (ne_eqb (suc (offset (sizes S) j)) 0 (omega arith)) in
-            simp t (rw (r.words, r.place) (ap some (inner_key' (offset (sizes S) (suc j)) (items_at S (parent (sizes S) (suc j))) (λ o. let v = sym z ∙ o in omega arith) r.off r.few ∙ k)))
+            simp t (rw (r.words, r.place) (ap Some (inner_key' (offset (sizes S) (suc j)) (items_at S (parent (sizes S) (suc j))) (λ o. let v = sym z ∙ o in omega arith) r.off r.few ∙ k)))
         | across x y z ↦
             let t : eqb (ps (length Ss)) 0 ≡ true = rw (r.place, z) refl in
             let n2 : suc (parent (sizes S) j) < length S = rw y at r.par in
             let k' = rw (y, z) at k in
             let one = rw (y, z) at r.off in
-            simp (t, crit_is S (parent (sizes S) j) Ss n2 s.2 hs.1 (rw y at p.2)) (ap some (front-first (items_at S (suc (parent (sizes S) j))) one ∙ k'))
+            simp (t, crit_is S (parent (sizes S) j) Ss n2 s.2 hs.1 (rw y at p.2)) (ap Some (front-first (items_at S (suc (parent (sizes S) j))) one ∙ k'))
       ]
 
-  pub crit_none : (R : Row) (Ss : List Row) → 1 ≤ length R → Stacked R Ss → HoldsUp st Ss → Leads R 0 Ss ns ps → crit_key st ns ps (length Ss) ≡ none
+  pub crit_none : (R : Row) (Ss : List Row) → 1 ≤ length R → Stacked R Ss → HoldsUp st Ss → Leads R 0 Ss ns ps → crit_key st ns ps (length Ss) ≡ None
   crit_none R [] h s hs p = refl
   crit_none R (S ∷ Ss) h s hs p =
       let u : sum (sizes S) ≡ length R = stacked-sum R S s.0 in

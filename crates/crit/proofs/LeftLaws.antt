@@ -1,8 +1,8 @@
 -- PROOFS. The key before a node: read, set, handed to the right neighbour
-use mathlib.Core.Path.{◌≡◌, refl, sym, ap, ◌∙◌, subst}
+use mathlib.Core.Path.{◌≡◌, refl, sym, ◌∙◌, subst}
 use mathlib.Core.List.{List}
 use mathlib.Core.Bool.{true, false}
-use mathlib.Core.Option.{some}
+use Rattle.std.specs.Prelude.{Option, Some, None}
 use Prim.Native.Nat.{ℕ, zero, suc, ◌≤◌, ◌<◌}
 use native.Mathlib.Omega.{arith}
 use lib.ListN.{get_or, set, length-set}
@@ -11,9 +11,7 @@ use borrow.Author.Tests.{eq-eqb, ne_eqb}
 use Rattle.forest.specs.declared.Cursor.{Cursor}
 use Rattle.pool.specs.Stores.{block, with_block}
 use Rattle.crit.specs.States.{stored, right_set, left_set, crit_key, hand_key}
-use Rattle.crit.specs.Asks.{Mem, moved, Spelt, Route, Leaves, Crits, crit_of}
-use Rattle.crit.specs.declared.Crit.{Crit}
-use Rattle.crit.specs.declared.Crit.TheVariants.{Key, Nothing}
+use Rattle.crit.specs.Asks.{Mem, moved, Spelt, Route, Leaves, Crits}
 use Rattle.crit.proofs.SpeltLaws.{spelt_store}
 use Rattle.crit.proofs.WayLaws.{way_at, way_block}
 
@@ -25,20 +23,20 @@ module _ {ws : List ℕ} {t : ℕ} {c : Cursor} {level : ℕ} (y : Route ws t c 
   first_no m sp h = ne_eqb (m.s.ps l) 0 (λ q. h (sp.places l (omega (arith, y.deep)) ∙ q))
 
   -- current_crit_key
-  pub crit_here : (w : List ℕ) (p : ℕ) → w ≡ block ws t (get_or c.nodes l 0) → p ≡ get_or c.places l 0 → (p ≡ 0 → ⊥) → Crits ws t c level (Key (get_or w p 0))
+  pub crit_here : (w : List ℕ) (p : ℕ) → w ≡ block ws t (get_or c.nodes l 0) → p ≡ get_or c.places l 0 → (p ≡ 0 → ⊥) → Crits ws t c level (Some (get_or w p 0))
   crit_here w p q a h = record {
     run = λ m sp.
         let b : w ≡ m.s.st (m.s.ns l) = q ∙ way_block y m sp l (omega arith) in
         let a2 : p ≡ m.s.ps l = a ∙ sp.places l (omega (arith, y.deep)) in
         let f = first_no m sp (λ z. h (a ∙ z)) in
-        subst (λ (z : ℕ). some (get_or w p 0) ≡ crit_key m.s.st m.s.ns m.s.ps z) e (simp f (rw (b, a2)));
+        subst (λ (z : ℕ). Some (get_or w p 0) ≡ crit_key m.s.st m.s.ns m.s.ps z) e (simp f (rw (b, a2)));
   }
 
-  pub crit_up : (p : ℕ) (r : Crit) → p ≡ get_or c.places l 0 → p ≡ 0 → Crits ws t c l r → Crits ws t c level r
+  pub crit_up : (p : ℕ) (r : Option ℕ) → p ≡ get_or c.places l 0 → p ≡ 0 → Crits ws t c l r → Crits ws t c level r
   crit_up p r a h g = record {
     run = λ m sp.
         let f = first_yes m sp (sym a ∙ h) in
-        subst (λ (z : ℕ). crit_of r ≡ crit_key m.s.st m.s.ns m.s.ps z) e (simp f (g.run m sp));
+        subst (λ (z : ℕ). r ≡ crit_key m.s.st m.s.ns m.s.ps z) e (simp f (g.run m sp));
   }
 
   -- update_crit_key
@@ -65,7 +63,7 @@ module _ {ws : List ℕ} {t : ℕ} {c : Cursor} {level : ℕ} (y : Route ws t c 
         subst (λ (z : ℕ). Spelt vs t c (moved m (stored m.s (left_set m.s.st m.s.ns m.s.ps z k)))) e (simp f (g.run m sp));
   }
 
-pub crit_root : {ws : List ℕ} {t : ℕ} {c : Cursor} (level : ℕ) → level ≤ 0 → Crits ws t c level Nothing
+pub crit_root : {ws : List ℕ} {t : ℕ} {c : Cursor} (level : ℕ) → level ≤ 0 → Crits ws t c level None
 crit_root zero h = record { run = λ m sp. refl }
 crit_root (suc l) h = absurd (omega arith)
 
@@ -74,9 +72,9 @@ left_root k zero h = record { run = λ m sp. sp }
 left_root k (suc l) h = absurd (omega arith)
 
 -- hand_crit_key
-pub hand_some : {ws vs : List ℕ} {t : ℕ} {c : Cursor} {level : ℕ} (r : Crit) (k : ℕ) → Crits ws t c level r → r ≡ Key k → Leaves (λ s. stored s (right_set s.st s.ns s.ps level k)) ws vs t c c →
+pub hand_some : {ws vs : List ℕ} {t : ℕ} {c : Cursor} {level : ℕ} (r : Option ℕ) (k : ℕ) → Crits ws t c level r → r ≡ Some k → Leaves (λ s. stored s (right_set s.st s.ns s.ps level k)) ws vs t c c →
     Leaves (λ s. stored s (hand_key s.st s.ns s.ps level)) ws vs t c c
-hand_some {ws} {vs} {t} {c} {level} r k g x f = record { run = λ m sp. rw (sym (g.run m sp) ∙ ap crit_of x) (f.run m sp) }
+hand_some {ws} {vs} {t} {c} {level} r k g x f = record { run = λ m sp. rw (sym (g.run m sp) ∙ x) (f.run m sp) }
 
-pub hand_none : {ws : List ℕ} {t : ℕ} {c : Cursor} {level : ℕ} (r : Crit) → Crits ws t c level r → r ≡ Nothing → Leaves (λ s. stored s (hand_key s.st s.ns s.ps level)) ws ws t c c
-hand_none {ws} {t} {c} {level} r g x = record { run = λ m sp. rw (sym (g.run m sp) ∙ ap crit_of x) sp }
+pub hand_none : {ws : List ℕ} {t : ℕ} {c : Cursor} {level : ℕ} (r : Option ℕ) → Crits ws t c level r → r ≡ None → Leaves (λ s. stored s (hand_key s.st s.ns s.ps level)) ws ws t c c
+hand_none {ws} {t} {c} {level} r g x = record { run = λ m sp. rw (sym (g.run m sp) ∙ x) sp }

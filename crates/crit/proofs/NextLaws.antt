@@ -1,8 +1,7 @@
 -- PROOFS. The path to the right neighbour, next_node, and the end of empty_node
 use mathlib.Core.Path.{◌≡◌, refl, sym, ap, ◌∙◌, subst}
 use mathlib.Core.List.{List, [], ◌∷◌}
-use mathlib.Core.Bool.{false}
-use mathlib.Core.Option.{none, some}
+use Rattle.std.specs.Prelude.{true, false, Option, Some, None, is_some}
 use Prim.Native.Nat.{ℕ, zero, suc, ◌+◌, ◌≤◌, ◌<◌}
 use native.Mathlib.Omega.{arith}
 use lib.ListN.{length, get_or, set, length-set}
@@ -12,14 +11,13 @@ use borrow.Author.Tests.{ltb-true, ltb-false, eqb-true, eqb-false}
 use Rattle.forest.specs.Lists.{sum, count, parent, offset}
 use Rattle.forest.specs.Rows.{Row, size, sizes}
 use Rattle.forest.specs.Trees.{numbers}
+use Rattle.forest.specs.Pairs.{Item}
 use Rattle.forest.specs.declared.Cursor.{Cursor}
 use Rattle.forest.proofs.ListLaws.{is, isnt, test}
 use Rattle.pool.specs.Stores.{block, Placed}
 use Rattle.crit.specs.States.{State, at, more, right_sibling, next_at, next_path, next_node, next_with, node_at, lives}
 use Rattle.crit.specs.Paths.{num_at, Stacked, HoldsUp, Leads}
-use Rattle.crit.specs.Asks.{Mem, moved, Spelt, Route, RightRoute, Leaves, Finds, near_of, Passes}
-use Rattle.crit.specs.declared.Near.{Near}
-use Rattle.crit.specs.declared.Near.TheVariants.{Right, Nothing}
+use Rattle.crit.specs.Asks.{Mem, moved, Spelt, Route, RightRoute, Leaves, Finds, Passes, off_end}
 use Rattle.crit.proofs.HealStack
 use Rattle.crit.proofs.HealPath
 use Rattle.crit.proofs.HealNext
@@ -52,19 +50,19 @@ spelt_path sp s a b l ns ps nl pl tr sz = record {
 }
 
 -- off the end
-pub spelt_off : {ws : List ℕ} {t : ℕ} {c d : Cursor} {m : Mem} → Spelt ws t c m → d.nodes ≡ c.nodes → d.places ≡ c.places → d.tree ≡ c.tree → d.size ≡ 0 → Spelt ws t d (moved m (lives m.s false))
-spelt_off sp a b tr z = record {
+pub spelt_off : {ws : List ℕ} {t : ℕ} {c d : Cursor} {m : Mem} → Spelt ws t c m → d ≡ off_end c → Spelt ws t d (moved m (lives m.s false))
+spelt_off sp e = rw e (record {
   words = sp.words;
   trees = sp.trees;
   few = sp.few;
   sixteen = sp.sixteen;
-  nodes = λ l h. rw a (sp.nodes l h);
-  places = λ l h. rw b (sp.places l h);
-  long = rw a sp.long;
-  wide = rw b sp.wide;
-  tree = tr ∙ sp.tree;
-  size = z;
-}
+  nodes = sp.nodes;
+  places = sp.places;
+  long = sp.long;
+  wide = sp.wide;
+  tree = sp.tree;
+  size = refl;
+})
 
 module _ {ws : List ℕ} {t : ℕ} {c : Cursor} {level : ℕ} (g : RightRoute ws t c level) (l : ℕ) (e : suc l ≡ level) where
   -- the next node is to the right in the same parent
@@ -175,32 +173,32 @@ path_root zero h = record { run = λ m sp. sp }
 path_root (suc l) h = absurd (omega arith)
 
 -- next_node
-pub goes_right : {ws : List ℕ} {t : ℕ} {c : Cursor} {level : ℕ} (y : Route ws t c level) (near : Near) (k n : ℕ) → Finds ws t c level near → near ≡ Right k n → RightRoute ws t c level
-goes_right {level} y near k n f x = elim (test (ltb (suc y.at) (length y.row))) [
+pub goes_right : {ws : List ℕ} {t : ℕ} {c : Cursor} {level : ℕ} (y : Route ws t c level) (near : Option Item) → Finds ws t c level near → is_some near ≡ true → RightRoute ws t c level
+goes_right {level} y near f x = elim (test (ltb (suc y.at) (length y.row))) [
   | is e ↦ record { way = y; more = ltb-true _ _ e }
   | isnt e ↦
       let z : suc y.at ≡ length y.row = (let k = ltb-false (suc y.at) (length y.row) e in omega (arith, y.inside)) in
       let r = HealPath.right_none y.mem.s.st y.mem.s.ns y.mem.s.ps y.row y.at y.rows z y.stacked y.up y.path in
-      let r2 : right_sibling y.mem.s.st y.mem.s.ns y.mem.s.ps level ≡ none = rw y.levels at r in
-      absurd (let k : ◌≡◌ {A = ℕ} 0 1 = cc (r2, f.run y.mem y.spelt, ap near_of x) in omega arith)
+      let r2 : right_sibling y.mem.s.st y.mem.s.ns y.mem.s.ps level ≡ None = rw y.levels at r in
+      absurd (let n : near ≡ None = f.run y.mem y.spelt ∙ r2 in grind (arith, n, x))
 ]
 
-pub next_some : {ws : List ℕ} {t : ℕ} {c d r : Cursor} {level : ℕ} (near : Near) (k n : ℕ) → level < 16 → Finds ws t c level near → near ≡ Right k n → Leaves (next_path level) ws ws t c d →
+pub next_some : {ws : List ℕ} {t : ℕ} {c d r : Cursor} {level : ℕ} (near : Option Item) (k n : ℕ) → level < 16 → Finds ws t c level near → near ≡ Some (k, n) → Leaves (next_path level) ws ws t c d →
     r.nodes ≡ d.nodes → r.places ≡ set d.places level 0 → r.tree ≡ d.tree → r.size ≡ d.size → Leaves (next_node level) ws ws t c r
 next_some {ws} {t} {c} {d} {r} {level} near k n b f x g ns ps tr sz = record {
   run = λ m sp.
       let q = g.run m sp in
-      rw (sym (f.run m sp) ∙ ap near_of x) (
-      spelt_path q (next_with (some (k, n)) level m.s) refl refl refl
+      rw (sym (f.run m sp) ∙ x) (
+      spelt_path q (next_with (Some (k, n)) level m.s) refl refl refl
       (λ i h. rw ns (q.nodes i h)) (λ i h. rw ps (set_at d.places (next_at m.s.st m.s.ns m.s.ps level).1 level 0 q.wide b q.places i h))
       (ap length ns ∙ q.long) (ap length ps ∙ length-set d.places level 0 ∙ q.wide) tr sz);
 }
 
-pub next_none : {ws : List ℕ} {t : ℕ} {c r : Cursor} {level : ℕ} (near : Near) → Finds ws t c level near → near ≡ Nothing → r.nodes ≡ c.nodes → r.places ≡ c.places → r.tree ≡ c.tree → r.size ≡ 0 → Leaves (next_node level) ws ws t c r
-next_none {ws} {t} {c} {r} {level} near f x a b tr z = record { run = λ m sp. rw (sym (f.run m sp) ∙ ap near_of x) (spelt_off sp a b tr z) }
+pub next_none : {ws : List ℕ} {t : ℕ} {c r : Cursor} {level : ℕ} (near : Option Item) → Finds ws t c level near → near ≡ None → r ≡ off_end c → Leaves (next_node level) ws ws t c r
+next_none {ws} {t} {c} {r} {level} near f x e = record { run = λ m sp. rw (sym (f.run m sp) ∙ x) (spelt_off sp e) }
 
 -- through_right
-pub passes_some : {c r : Cursor} {level : ℕ} (near : Near) (k n : ℕ) → level < 16 → near ≡ Right k n → r.nodes ≡ set c.nodes level n → r.places ≡ c.places → r.tree ≡ c.tree → r.size ≡ c.size → Passes c r level near
+pub passes_some : {c r : Cursor} {level : ℕ} (near : Option Item) (k n : ℕ) → level < 16 → near ≡ Some (k, n) → r.nodes ≡ set c.nodes level n → r.places ≡ c.places → r.tree ≡ c.tree → r.size ≡ c.size → Passes c r level near
 passes_some {c} {r} {level} near k n d e a b tr z = record {
   run = λ ws t m sp.
       rw e (
@@ -209,5 +207,5 @@ passes_some {c} {r} {level} near k n d e a b tr z = record {
       (ap length a ∙ length-set c.nodes level n ∙ sp.long) (ap length b ∙ sp.wide) tr z);
 }
 
-pub passes_none : {c r : Cursor} {level : ℕ} (near : Near) → near ≡ Nothing → r.nodes ≡ c.nodes → r.places ≡ c.places → r.tree ≡ c.tree → r.size ≡ 0 → Passes c r level near
-passes_none {c} {r} {level} near e a b tr z = record { run = λ ws t m sp. rw e (spelt_off sp a b tr z) }
+pub passes_none : {c r : Cursor} {level : ℕ} (near : Option Item) → near ≡ None → r ≡ off_end c → Passes c r level near
+passes_none {c} {r} {level} near e o = record { run = λ ws t m sp. rw e (spelt_off sp o) }

@@ -2,17 +2,16 @@
 use mathlib.Core.Path.{◌≡◌, refl, sym, ap, ◌∙◌, subst}
 use mathlib.Core.List.{List}
 use mathlib.Core.Bool.{true, false}
-use mathlib.Core.Option.{none, some}
+use Rattle.std.specs.Prelude.{Option, Some, None}
 use Prim.Native.Nat.{ℕ, zero, suc, ◌+◌, ◌-◌, ◌≤◌, ◌<◌}
 use native.Mathlib.Omega.{arith}
 use lib.ListN.{get_or, set, length-set}
 use borrow.Author.Tests.{lt-ltb, le-ltb}
+use Rattle.forest.specs.Pairs.{Item}
 use Rattle.forest.specs.declared.Cursor.{Cursor}
 use Rattle.pool.specs.Stores.{block, with_block, Placed}
 use Rattle.crit.specs.States.{stored, more, right_sibling, right_set}
-use Rattle.crit.specs.Asks.{Mem, moved, Spelt, Route, Leaves, Finds, near_of}
-use Rattle.crit.specs.declared.Near.{Near}
-use Rattle.crit.specs.declared.Near.TheVariants.{Right, Nothing}
+use Rattle.crit.specs.Asks.{Mem, moved, Spelt, Route, Leaves, Finds}
 use Rattle.crit.proofs.SpeltLaws.{spelt_block, spelt_placed, spelt_store, same_count}
 use Rattle.crit.proofs.WayLaws.{way_at, way_block, way_right}
 
@@ -33,7 +32,7 @@ module _ {ws : List ℕ} {t : ℕ} {c : Cursor} {level : ℕ} (y : Route ws t c 
       le-ltb (m.s.ps l) (get_or (m.s.st (m.s.ns l)) 0 0 - 16) (omega arith)
 
   -- right_sibling
-  pub right_here : (w : List ℕ) (p : ℕ) → w ≡ block ws t (get_or c.nodes l 0) → p ≡ get_or c.places l 0 → p + 16 < get_or w 0 0 → Finds ws t c level (Right (get_or w (1 + p) 0) (get_or w (9 + p) 0))
+  pub right_here : (w : List ℕ) (p : ℕ) → w ≡ block ws t (get_or c.nodes l 0) → p ≡ get_or c.places l 0 → p + 16 < get_or w 0 0 → Finds ws t c level (Some (get_or w (1 + p) 0, get_or w (9 + p) 0))
   right_here w p q a h = record {
     run = λ m sp.
         let d : l < 16 = omega (arith, y.deep) in
@@ -42,33 +41,33 @@ module _ {ws : List ℕ} {t : ℕ} {c : Cursor} {level : ℕ} (y : Route ws t c 
         let mo = more_yes m sp (rw (q, a) at h) in
         let k2 : get_or w (1 + p) 0 ≡ get_or (m.s.st (m.s.ns l)) (suc (m.s.ps l)) 0 = rw (b, a2) (ap (λ (i : ℕ). get_or (m.s.st (m.s.ns l)) i 0) (omega arith)) in
         let n2 : get_or w (9 + p) 0 ≡ get_or (m.s.st (m.s.ns l)) (8 + suc (m.s.ps l)) 0 = rw (b, a2) (ap (λ (i : ℕ). get_or (m.s.st (m.s.ns l)) i 0) (omega arith)) in
-        subst (λ (z : ℕ). some (get_or w (1 + p) 0, get_or w (9 + p) 0) ≡ right_sibling m.s.st m.s.ns m.s.ps z) e (simp mo (rw (k2, n2)));
+        subst (λ (z : ℕ). Some (get_or w (1 + p) 0, get_or w (9 + p) 0) ≡ right_sibling m.s.st m.s.ns m.s.ps z) e (simp mo (rw (k2, n2)));
   }
 
-  pub right_up : (w : List ℕ) (p : ℕ) (v : List ℕ) (near : Near) (k n : ℕ) → w ≡ block ws t (get_or c.nodes l 0) → p ≡ get_or c.places l 0 → get_or w 0 0 ≤ p + 16 → Finds ws t c l near → near ≡ Right k n →
-      v ≡ block ws t n → Finds ws t c level (Right k (get_or v 8 0))
+  pub right_up : (w : List ℕ) (p : ℕ) (v : List ℕ) (near : Option Item) (k n : ℕ) → w ≡ block ws t (get_or c.nodes l 0) → p ≡ get_or c.places l 0 → get_or w 0 0 ≤ p + 16 → Finds ws t c l near → near ≡ Some (k, n) →
+      v ≡ block ws t n → Finds ws t c level (Some (k, get_or v 8 0))
   right_up w p v near k n q a h f x g = record {
     run = λ m sp.
-        let r = way_right y l e (k, n) (sym (f.run y.mem y.spelt) ∙ ap near_of x) in
+        let r = way_right y l e (k, n) (sym (f.run y.mem y.spelt) ∙ x) in
         let cn : y.mem.count ≡ m.count = same_count y.spelt sp in
         let b : v ≡ m.s.st n = g ∙ spelt_block sp n r.0 (omega arith) in
         let mo = more_no m sp (rw (q, a) at h) in
-        let rs : right_sibling m.s.st m.s.ns m.s.ps l ≡ some (k, n) = sym (f.run m sp) ∙ ap near_of x in
-        subst (λ (z : ℕ). some (k, get_or v 8 0) ≡ right_sibling m.s.st m.s.ns m.s.ps z) e (simp (mo, rs) (rw b));
+        let rs : right_sibling m.s.st m.s.ns m.s.ps l ≡ Some (k, n) = sym (f.run m sp) ∙ x in
+        subst (λ (z : ℕ). Some (k, get_or v 8 0) ≡ right_sibling m.s.st m.s.ns m.s.ps z) e (simp (mo, rs) (rw b));
   }
 
-  pub right_off : (w : List ℕ) (p : ℕ) (near : Near) → w ≡ block ws t (get_or c.nodes l 0) → p ≡ get_or c.places l 0 → get_or w 0 0 ≤ p + 16 → Finds ws t c l near → near ≡ Nothing → Finds ws t c level Nothing
+  pub right_off : (w : List ℕ) (p : ℕ) (near : Option Item) → w ≡ block ws t (get_or c.nodes l 0) → p ≡ get_or c.places l 0 → get_or w 0 0 ≤ p + 16 → Finds ws t c l near → near ≡ None → Finds ws t c level None
   right_off w p near q a h f x = record {
     run = λ m sp.
         let mo = more_no m sp (rw (q, a) at h) in
-        let rs : right_sibling m.s.st m.s.ns m.s.ps l ≡ none = sym (f.run m sp) ∙ ap near_of x in
-        subst (λ (z : ℕ). none ≡ right_sibling m.s.st m.s.ns m.s.ps z) e (simp (mo, rs));
+        let rs : right_sibling m.s.st m.s.ns m.s.ps l ≡ None = sym (f.run m sp) ∙ x in
+        subst (λ (z : ℕ). None ≡ right_sibling m.s.st m.s.ns m.s.ps z) e (simp (mo, rs));
   }
 
   -- the neighbour is a node of the pool
-  pub right_placed : (near : Near) (k n : ℕ) → Finds ws t c l near → near ≡ Right k n → Placed ws t n
+  pub right_placed : (near : Option Item) (k n : ℕ) → Finds ws t c l near → near ≡ Some (k, n) → Placed ws t n
   right_placed near k n f x =
-      let r = way_right y l e (k, n) (sym (f.run y.mem y.spelt) ∙ ap near_of x) in
+      let r = way_right y l e (k, n) (sym (f.run y.mem y.spelt) ∙ x) in
       spelt_placed y.spelt n r.0 r.1
 
   -- update_right_crit_key
@@ -95,7 +94,7 @@ module _ {ws : List ℕ} {t : ℕ} {c : Cursor} {level : ℕ} (y : Route ws t c 
         subst (λ (z : ℕ). Spelt vs t c (moved m (stored m.s (right_set m.s.st m.s.ns m.s.ps z k)))) e (simp mo (f.run m sp));
   }
 
-pub right_root : {ws : List ℕ} {t : ℕ} {c : Cursor} (level : ℕ) → level ≤ 0 → Finds ws t c level Nothing
+pub right_root : {ws : List ℕ} {t : ℕ} {c : Cursor} (level : ℕ) → level ≤ 0 → Finds ws t c level None
 right_root zero h = record { run = λ m sp. refl }
 right_root (suc l) h = absurd (omega arith)
 

@@ -1,7 +1,7 @@
 -- PROOFS. On a way: the nodes above a level are inner nodes of the pool, and the right neighbour is one too
 use mathlib.Core.Path.{◌≡◌, sym, ap, ◌∙◌}
 use mathlib.Core.List.{List, [], ◌∷◌}
-use mathlib.Core.Option.{some}
+use Rattle.std.specs.Prelude.{Some}
 use Prim.Native.Nat.{ℕ, suc, ◌≤◌, ◌<◌}
 use native.Mathlib.Omega.{arith}
 use lib.ListN.{length, get_or}
@@ -69,11 +69,11 @@ path_inside N st R j (S ∷ Ss) ns ps h s nm hu p l b =
 
 -- a right neighbour below the rows is one of the row's numbers
 pub right_inside : (N : ℕ) (st : Store) (R : Row) (j : ℕ) (Ss : List Row) (ns ps : ℕ → ℕ) → j < length R → Stacked R Ss → ((i : ℕ) → i < length R → (1 ≤ num_at R i) × (num_at R i ≤ N)) → HoldsUp st Ss → Leads R j Ss ns ps →
-    (x : Item) → right_sibling st ns ps (length Ss) ≡ some x → (1 ≤ x.1) × (x.1 ≤ N)
+    (x : Item) → right_sibling st ns ps (length Ss) ≡ Some x → (1 ≤ x.1) × (x.1 ≤ N)
 right_inside N st R j Ss ns ps h s nm hu p x e = elim (test (ltb (suc j) (length R))) [
   | is f ↦
       let b = ltb-true (suc j) (length R) f in
-      let r = HealPath.right_is st ns ps R j Ss b s hu p ∙ ap some (HealRows.line_at (0, 0) R (suc j) b) in
+      let r = HealPath.right_is st ns ps R j Ss b s hu p ∙ ap Some (HealRows.line_at (0, 0) R (suc j) b) in
       let q : ◌≡◌ {A = Item} (front (items_at R (suc j)), num_at R (suc j)) x = cc (r, e) in
       let n : num_at R (suc j) ≡ x.1 = ap (λ (y : Item). y.1) q in
       let k = nm (suc j) b in
@@ -151,7 +151,7 @@ module _ {ws : List ℕ} {t : ℕ} {c : Cursor} {level : ℕ} (y : Route ws t c 
           }
 
   -- the right neighbour one level up
-  pub way_right : (l : ℕ) → suc l ≡ level → (x : Item) → right_sibling y.mem.s.st y.mem.s.ns y.mem.s.ps l ≡ some x → (1 ≤ x.1) × (x.1 ≤ y.mem.count)
+  pub way_right : (l : ℕ) → suc l ≡ level → (x : Item) → right_sibling y.mem.s.st y.mem.s.ns y.mem.s.ps l ≡ Some x → (1 ≤ x.1) × (x.1 ≤ y.mem.count)
   way_right l e x r = from y.rows y.levels y.stacked y.named y.up y.path
     where
       from : (rows : List Row) → length rows ≡ level → Stacked y.row rows → ((x : ℕ) → 1 ≤ count x (numbers rows) → (1 ≤ x) × (x ≤ y.mem.count)) → HoldsUp y.mem.s.st rows →

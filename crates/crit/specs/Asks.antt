@@ -1,6 +1,5 @@
 -- DEFINITIONS. What the functions of removal ask of the words and the cursor, and what they leave
-use Rattle.std.specs.Prelude.{◌≡◌, List, cond, ℕ, suc, ◌≤◌, ◌<◌, length, get_or}
-use Rattle.std.proofs.Math.Option.{Option, none, some}
+use Rattle.std.specs.Prelude.{◌≡◌, List, cond, ℕ, suc, ◌≤◌, ◌<◌, length, get_or, Option}
 use Rattle.forest.specs.Sizes.{most_nodes, most_levels}
 use Rattle.forest.specs.Lists.{count}
 use Rattle.forest.specs.Pairs.{Item}
@@ -10,10 +9,6 @@ use Rattle.forest.specs.declared.Cursor.{Cursor}
 use Rattle.pool.specs.Stores.{Sixteen, spell}
 use Rattle.crit.specs.States.{State, right_sibling, crit_key, through_right}
 use Rattle.crit.specs.Paths.{Stacked, HoldsUp, Leads}
-use Rattle.crit.specs.declared.Near.{Near}
-use Rattle.crit.specs.declared.Near.TheVariants.{Right, Nothing}
-use Rattle.crit.specs.declared.Crit.{Crit}
-use Rattle.crit.specs.declared.Crit.TheVariants as crit
 
 -- a pool's words over a state: roots, N, the tree of the cursor and its size while it is on a pair
 pub record Mem : Type 0 where
@@ -59,29 +54,23 @@ pub record Route (ws : List ℕ) (t : ℕ) (c : Cursor) (level : ℕ) : Type 0 w
 pub record Leaves (f : State → State) (ws vs : List ℕ) (t : ℕ) (c d : Cursor) : Type 0 where
   pub run : (m : Mem) → Spelt ws t c m → Spelt vs t d (moved m (f m.s))
 
--- a neighbour that may be missing
-abbrev pub near_of : Near → Option Item
-near_of (Right k n) = some (k, n)
-near_of Nothing = none
-
 -- what right_sibling finds
-pub record Finds (ws : List ℕ) (t : ℕ) (c : Cursor) (level : ℕ) (r : Near) : Type 0 where
-  pub run : (m : Mem) → Spelt ws t c m → near_of r ≡ right_sibling m.s.st m.s.ns m.s.ps level
-
--- a key that may be missing
-abbrev pub crit_of : Crit → Option ℕ
-crit_of (crit.Key k) = some k
-crit_of crit.Nothing = none
+pub record Finds (ws : List ℕ) (t : ℕ) (c : Cursor) (level : ℕ) (r : Option Item) : Type 0 where
+  pub run : (m : Mem) → Spelt ws t c m → r ≡ right_sibling m.s.st m.s.ns m.s.ps level
 
 -- what current_crit_key finds
-pub record Crits (ws : List ℕ) (t : ℕ) (c : Cursor) (level : ℕ) (r : Crit) : Type 0 where
-  pub run : (m : Mem) → Spelt ws t c m → crit_of r ≡ crit_key m.s.st m.s.ns m.s.ps level
+pub record Crits (ws : List ℕ) (t : ℕ) (c : Cursor) (level : ℕ) (r : Option ℕ) : Type 0 where
+  pub run : (m : Mem) → Spelt ws t c m → r ≡ crit_key m.s.st m.s.ns m.s.ps level
 
 -- a way with a node to the right
 pub record RightRoute (ws : List ℕ) (t : ℕ) (c : Cursor) (level : ℕ) : Type 0 where
   pub way : Route ws t c level
   pub more : suc way.at < length way.row
 
+-- the cursor off the end, its nodes and places as they are
+abbrev pub off_end : Cursor → Cursor
+off_end c = record { tree = c.tree; size = 0; nodes = c.nodes; places = c.places }
+
 -- the cursor goes through the right neighbour, or off the end
-pub record Passes (c r : Cursor) (level : ℕ) (near : Near) : Type 0 where
-  pub run : (ws : List ℕ) (t : ℕ) (m : Mem) → Spelt ws t c m → Spelt ws t r (moved m (through_right (near_of near) level m.s))
+pub record Passes (c r : Cursor) (level : ℕ) (near : Option Item) : Type 0 where
+  pub run : (ws : List ℕ) (t : ℕ) (m : Mem) → Spelt ws t c m → Spelt ws t r (moved m (through_right near level m.s))

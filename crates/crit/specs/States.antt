@@ -1,6 +1,5 @@
 -- DEFINITIONS. A state in the middle of a removal: the words of the nodes, the free numbers, the cursor; its path, and steps along it. Level 0 is the root
-use Rattle.std.specs.Prelude.{List, Bool, false, cond, ℕ, zero, suc, ◌+◌, ◌-◌, get_or, set, ltb, eqb}
-use Rattle.std.proofs.Math.Option.{Option, none, some}
+use Rattle.std.specs.Prelude.{List, Bool, false, cond, ℕ, zero, suc, ◌+◌, ◌-◌, get_or, set, ltb, eqb, Option, Some, None}
 use Rattle.forest.specs.Sizes.{inner_tag}
 use Rattle.forest.specs.Pairs.{Item}
 use Rattle.pool.specs.Stores.{Store, put}
@@ -22,18 +21,18 @@ module _ (st : Store) (ns ps : ℕ → ℕ) where
 
   -- a neighbour's first child, with the same key before it
   abbrev pub first_child : Option Item → Option Item
-  first_child none = none
-  first_child (some x) = some (x.0, get_or (st x.1) 8 0)
+  first_child None = None
+  first_child (Some x) = Some (x.0, get_or (st x.1) 8 0)
 
   -- the right neighbour of the node at a level, and the key before it
   abbrev pub right_sibling : ℕ → Option Item
-  right_sibling zero = none
-  right_sibling (suc l) = cond (more l) (some (get_or (st (ns l)) (suc (ps l)) 0, get_or (st (ns l)) (8 + suc (ps l)) 0)) (first_child (right_sibling l))
+  right_sibling zero = None
+  right_sibling (suc l) = cond (more l) (Some (get_or (st (ns l)) (suc (ps l)) 0, get_or (st (ns l)) (8 + suc (ps l)) 0)) (first_child (right_sibling l))
 
   -- the key before the node at a level
   abbrev pub crit_key : ℕ → Option ℕ
-  crit_key zero = none
-  crit_key (suc l) = cond (eqb (ps l) 0) (crit_key l) (some (get_or (st (ns l)) (ps l) 0))
+  crit_key zero = None
+  crit_key (suc l) = cond (eqb (ps l) 0) (crit_key l) (Some (get_or (st (ns l)) (ps l) 0))
 
   -- the key before the right neighbour is set: one word
   abbrev pub right_set : ℕ → ℕ → Store
@@ -59,8 +58,8 @@ next_at st ns ps (suc l) =
 
 -- a key, if there is one, becomes that before the right neighbour
 abbrev pub hand_with : Option ℕ → Store → (ℕ → ℕ) → (ℕ → ℕ) → ℕ → Store
-hand_with none st ns ps l = st
-hand_with (some k) st ns ps l = right_set st ns ps l k
+hand_with None st ns ps l = st
+hand_with (Some k) st ns ps l = right_set st ns ps l k
 
 -- the key before the node that goes becomes that before its right neighbour
 abbrev pub hand_key : Store → (ℕ → ℕ) → (ℕ → ℕ) → ℕ → Store
@@ -92,8 +91,8 @@ next_path l s = record {
 
 -- to the first item of the right neighbour found; off the end if there is none
 abbrev pub next_with : Option Item → ℕ → State → State
-next_with none l s = lives s false
-next_with (some x) l s = record {
+next_with None l s = lives s false
+next_with (Some x) l s = record {
   st = s.st;
   free = s.free;
   ns = (next_at s.st s.ns s.ps l).0;
@@ -107,5 +106,5 @@ next_node l s = next_with (right_sibling s.st s.ns s.ps l) l s
 
 -- the path goes through the right neighbour of the node that went; off the end if there is none
 abbrev pub through_right : Option Item → ℕ → State → State
-through_right none l s = lives s false
-through_right (some x) l s = node_at s l x.1
+through_right None l s = lives s false
+through_right (Some x) l s = node_at s l x.1

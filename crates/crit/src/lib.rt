@@ -1,46 +1,30 @@
 // The keys above a node and its right sibling, as the crate's path.rs has them: what healing reads and changes along the path.
 #![tactic(auto)]
 
-ghost use Rattle.std.specs.Prelude.{◌<◌};
+ghost use Rattle.std.specs.Prelude.{◌≡◌, ◌<◌};
 ghost use Rattle.crit.specs.States.{stored, right_set, left_set, hand_key, next_path, next_node};
-ghost use Rattle.crit.specs.Asks.{Route, RightRoute, Leaves, Finds, Crits, Passes};
+ghost use Rattle.crit.specs.Asks.{Route, RightRoute, Leaves, Finds, Crits, Passes, off_end};
 
 use forest::Cursor;
 
-// What may stand to the right of a node: the key before it, and its number.
-#[derive(Clone, Copy)]
-pub enum Near {
-    Right(u32, u32),
-    Nothing,
-}
-
-// The key before a node, which the leftmost of a level has not.
-#[derive(Clone, Copy)]
-enum Crit {
-    Key(u32),
-    Nothing,
-}
-
-// The right sibling of the node at a level, even under another parent, and the key between them.
-pub fn right_sibling(ws: &[u32], t: usize, c: Cursor, level: usize) -> Near
+// The right sibling of the node at a level, even under another parent: the key between them, and its number.
+pub fn right_sibling(ws: &[u32], t: usize, c: Cursor, level: usize) -> Option<(u32, u32)>
     requires { Route ws.now t c level }
     ensures { Finds ws.now t c level result }
 {
     if level == 0 {
-        return Near::Nothing;
+        return None;
     }
     let l = level - 1;
     let n = c.nodes[l];
     let p = c.places[l] as usize;
     let w = pool::load(ws, t, n);
     if p + 16 < w[0] as usize {
-        return Near::Right(w[1 + p], w[9 + p]);
+        return Some((w[1 + p], w[9 + p]));
     }
-    let Near::Right(key, above) = right_sibling(ws, t, c, l) else {
-        return Near::Nothing;
-    };
+    let (key, above) = right_sibling(ws, t, c, l)?;
     let v = pool::load(ws, t, above);
-    Near::Right(key, v[8])
+    Some((key, v[8]))
 }
 
 // The key before the right sibling of the node at a level becomes `key`.
@@ -63,13 +47,13 @@ pub fn update_right_crit_key(ws: &mut [u32], t: usize, c: Cursor, level: usize, 
     update_right_crit_key(ws, t, c, l, key);
 }
 
-// The key before the node at a level.
-fn current_crit_key(ws: &[u32], t: usize, c: Cursor, level: usize) -> Crit
+// The key before the node at a level, which the leftmost of a level has not.
+fn current_crit_key(ws: &[u32], t: usize, c: Cursor, level: usize) -> Option<u32>
     requires { Route ws.now t c level }
     ensures { Crits ws.now t c level result }
 {
     if level == 0 {
-        return Crit::Nothing;
+        return None;
     }
     let l = level - 1;
     let p = c.places[l] as usize;
@@ -78,7 +62,7 @@ fn current_crit_key(ws: &[u32], t: usize, c: Cursor, level: usize) -> Crit
     }
     let n = c.nodes[l];
     let w = pool::load(ws, t, n);
-    Crit::Key(w[p])
+    Some(w[p])
 }
 
 // The key before the node at a level becomes `key`.
@@ -106,7 +90,7 @@ pub fn hand_crit_key(ws: &mut [u32], t: usize, c: Cursor, level: usize)
     requires { Route ws.old t c level }
     ensures { Leaves (λ s. stored s (hand_key s.st s.ns s.ps level)) ws.old ws.new t c c }
 {
-    if let Crit::Key(key) = current_crit_key(ws, t, c, level) {
+    if let Some(key) = current_crit_key(ws, t, c, level) {
         update_right_crit_key(ws, t, c, level, key);
     }
 }
@@ -137,34 +121,35 @@ fn next_path(ws: &[u32], t: usize, c: Cursor, level: usize) -> Cursor
     d
 }
 
+// The cursor goes off the end; its nodes and places stay.
+pub fn off_end(c: Cursor) -> Cursor
+    ensures { result ≡ off_end c }
+{
+    Cursor { size: 0, ..c }
+}
+
 // Moves to the first entry of the next node at a level; off the end if there is none.
 pub fn next_node(ws: &[u32], t: usize, c: Cursor, level: usize) -> Cursor
     requires { Route ws.now t c level }
     ensures { Leaves (next_node level) ws.now ws.now t c result }
 {
-    if let Near::Right(_, _) = right_sibling(ws, t, c, level) {
-        let mut d = next_path(ws, t, c, level);
-        d.places[level] = 0;
-        return d;
+    if right_sibling(ws, t, c, level).is_none() {
+        return off_end(c);
     }
-    let mut d = c;
-    d.size = 0;
+    let mut d = next_path(ws, t, c, level);
+    d.places[level] = 0;
     d
 }
 
 // The path at a level goes through the right sibling of the node that went; off the end if there is none.
-pub fn through_right(c: Cursor, level: usize, near: Near) -> Cursor
+pub fn through_right(c: Cursor, level: usize, near: Option<(u32, u32)>) -> Cursor
     requires { level < 16 }
     ensures { Passes c result level near }
 {
+    let Some((_, node)) = near else {
+        return off_end(c);
+    };
     let mut d = c;
-    match near {
-        Near::Right(_, node) => {
-            d.nodes[level] = node;
-        }
-        Near::Nothing => {
-            d.size = 0;
-        }
-    }
+    d.nodes[level] = node;
     d
 }

@@ -3,6 +3,7 @@ use mathlib.Core.Path.{◌≡◌, refl, sym, ap, ◌∙◌}
 use mathlib.Core.List.{List, [], ◌∷◌}
 use mathlib.Core.Bool.{true, false}
 use Prim.Native.Nat.{ℕ, suc, ◌+◌, ◌-◌, ◌≤◌, ◌<◌}
+use native.Mathlib.Numerals.{add-one}
 use native.Mathlib.Omega.{arith}
 use lib.ListN.{length, take, drop, get_or, set, length-drop}
 use lib.Seq.{set-get_or}
@@ -155,7 +156,7 @@ module _ (ws : List ℕ) (t tree : ℕ) (ns ps : List ℕ) (level : ℕ) (b : 1 
         let z : get_or w 0 0 ≡ 16 + (length (items_up s) - 1) = ap (λ (v : List ℕ). get_or v 0 0) is-inner in
         (rw is-inner (inner_is (items_up s) (omega (arith, seen_up.inside)) seen_up.few), h, rw seen_up.place (omega (arith, seen_up.inside)))
 
-    pub split_asks : 23 ≤ get_or w 0 0 → Inner w × (get_or w 0 0 ≡ 23) × (get_or ps (level - 1) 0 < 8)
+    pub split_asks : 23 ≤ get_or w 0 0 → Inner w × (get_or w 0 0 ≡ 23) × (get_or ps (level - 1) 0 + 1 ≤ 8)
     split_asks h =
         let z : get_or w 0 0 ≡ 16 + (length (items_up s) - 1) = ap (λ (v : List ℕ). get_or v 0 0) is-inner in (
           rw is-inner (inner_is (items_up s) (omega (arith, seen_up.inside)) seen_up.few),
@@ -164,10 +165,13 @@ module _ (ws : List ℕ) (t tree : ℕ) (ns ps : List ℕ) (level : ℕ) (b : 1 
         )
 
   -- the halves of the cut node
-  module _ (key node : ℕ) (r : SplitOff) (q : r ≡ split_of inner_words (keeps 8 (suc (get_or ps (level - 1) 0))) (insert_at (suc (get_or ps (level - 1) 0)) (key, node) (inner_items w)))
+  module _ (key node : ℕ) (r : SplitOff) (cut : r ≡ split_of inner_words (keeps 8 (get_or ps (level - 1) 0 + 1)) (insert_at (get_or ps (level - 1) 0 + 1) (key, node) (inner_items w)))
       (h : 23 ≤ get_or w 0 0) (s : Grows.Scene) (g : Grows.Climb s ws t tree ns ps level) where
     abbrev here : Seen ws t tree ns ps s level
     here = seen_up s g.under
+
+    q : r ≡ split_of inner_words (keeps 8 (suc (get_or ps (level - 1) 0))) (insert_at (suc (get_or ps (level - 1) 0)) (key, node) (inner_items w))
+    q = cut ∙ ap (λ (i : ℕ). split_of inner_words (keeps 8 i) (insert_at i (key, node) (inner_items w))) (add-one (get_or ps (level - 1) 0))
 
     is-full : full 8 (par_up s) (row_up s) ≡ true
     is-full = up_full ws t tree ns ps s level g.under here (rw e at h)

@@ -10,6 +10,7 @@ ghost use Rattle.grow.specs.Grows.{planted_words, cut_words, Takes, AskCut};
 ghost use Rattle.grow.specs.Grows.{Scene, Under, Unders, Climb, Climbs, climbed, Land, Lands, leaf_need, Landed, Fits, landed_words};
 
 use forest::{Cursor, Refusal, Reply};
+use node::{InnerNode, LeafNode};
 
 // Takes a node, gives it the words of `node`, and makes it the root of a tree.
 fn plant(ws: &mut [u32], t: usize, tree: u32, node: [u32; 16])
@@ -77,7 +78,7 @@ fn split_and_insert(ws: &mut [u32], t: usize, c: Cursor, level: usize, key: u32,
         pool::store(ws, t, n, node::inner_insert(w, at, key, node));
         return;
     }
-    let split = node::inner_split(w, at, key, node);
+    let split = node::split::<InnerNode>(w, at + 1, key, node);
     let left = split.left;
     let right = split.right;
     let rhs = cut(ws, t, n, left, right);
@@ -109,7 +110,7 @@ fn insert(ws: &mut [u32], t: usize, c: Cursor, key: u32, value: u32)
     let level = c.size as usize - 1;
     let n = c.nodes[level];
     let at = c.places[level] as usize;
-    let split = node::leaf_split(pool::load(ws, t, n), at, key, value);
+    let split = node::split::<LeafNode>(pool::load(ws, t, n), at, key, value);
     let left = split.left;
     let right = split.right;
     let rhs = cut(ws, t, n, left, right);

@@ -1,8 +1,9 @@
--- PROOFS. The cycle of three: each call finds what it asks, and each return is a step of its definition
-use mathlib.Core.Path.{◌≡◌, refl, sym, ap, ◌∙◌, subst}
+-- PROOFS. Healing upward: each call finds what it asks, and each return is a step of its definition
+use mathlib.Core.Path.{◌≡◌, refl, sym, ◌∙◌, subst}
 use mathlib.Core.List.{List, [], ◌∷◌, ◌++◌}
 use mathlib.Core.Bool.{Bool, true, false, ◌&&◌}
-use mathlib.Core.Option.{Option, some}
+use Rattle.std.specs.Prelude.{Option, Some, None}
+use Rattle.std.proofs.lemmas.Option.{none-some, same_Some}
 use Prim.Native.Nat.{ℕ, zero, suc, ◌-◌, ◌*◌, ◌≤◌, ◌<◌}
 use native.Mathlib.Omega.{arith}
 use lib.ListN.{length, get_or}
@@ -20,25 +21,37 @@ use Rattle.node.specs.declared.Removed.{Removed}
 use Rattle.node.specs.declared.Removed.TheVariants.{Healthy, Rightmost, Underflow, Empty}
 use Rattle.crit.specs.States.{State, right_sibling, next_node, through_right, stored}
 use Rattle.crit.specs.Paths.{num_at}
-use Rattle.crit.specs.Asks.{Mem, moved, Spelt, Route, Leaves, Finds, near_of, Passes}
-use Rattle.crit.specs.declared.Near.{Near}
-use Rattle.crit.specs.declared.Near.TheVariants.{Right, Nothing}
+use Rattle.crit.specs.Asks.{Mem, moved, Spelt, Route, Leaves, Finds, Passes, off_end}
 use Rattle.heal.specs.Steps.{inner_ops, heal_level, under_with, empty_node, empty_from, parent_cut, free_node}
 use Rattle.heal.specs.Wounds.{Emptied, Wounded, alive, dead, cut_row}
-use Rattle.heal.specs.Cycle.{Kind, inner_kind, emptied, left, standing, fits, gathered, stayed, healed, under, AskEmpty, AskHeal, AskJoin, Joined, Cuts, Mends}
+use Rattle.heal.specs.Cycle.{Kind, inner_kind, emptied, left, standing, fits, gathered, stayed, healed, under, AskEmpty, AskHeal, AskJoin, Joined, Cuts, Mends, Settles}
 use Rattle.crit.proofs.HealMem
 use Rattle.crit.proofs.HealPath
 use Rattle.crit.proofs.SpeltLaws.{same_count}
 use Rattle.crit.proofs.NextLaws.{spelt_off}
 use Rattle.heal.proofs.HealUp.{Lawful}
 use Rattle.heal.proofs.HealReady.{ready_cut, ready_none, ready_merge, par_in, len-C, path_c, once_row}
-use Rattle.heal.proofs.InnerOps.{inner_law}
+use Rattle.heal.specs.KindLaws.{inner_law}
 use Rattle.heal.proofs.FreeLaws.{spelt_freeable, spelt_freed, same_free, room, within_named}
 use Rattle.forest.proofs.WordLaws.{count-append}
 use Rattle.forest.proofs.CountLaws.{small}
 
 clash : ◌≡◌ {A = ℕ} 0 1 → ⊥
 clash z = omega arith
+
+-- a node that stays, a node that goes, and what follows of what it settled as
+pub settled : {P : List ℕ → Cursor → Type 0} {vs : List ℕ} {t : ℕ} {c r : Cursor} {level : ℕ} → P vs r → Settles P vs t c level (Some r)
+settled {P} {vs} {r} h = record {
+  stays = λ d e. subst (P vs) (same_Some r d e) h;
+  asks = λ e. absurd (none-some r (sym e));
+  goes = λ e us d f. absurd (none-some r (sym e));
+}
+
+pub goes_then : {P : List ℕ → Cursor → Type 0} {vs : List ℕ} {t : ℕ} {c : Cursor} {level : ℕ} → AskEmpty vs t c level → ((us : List ℕ) (d : Cursor) → Leaves (emptied level) vs us t c d → P us d) → Settles P vs t c level None
+goes_then a h = record { stays = λ d e. absurd (none-some d e); asks = λ e. a; goes = λ e. h }
+
+pub settles_as : {P Q : List ℕ → Cursor → Type 0} {vs : List ℕ} {t : ℕ} {c : Cursor} {level : ℕ} {r : Option Cursor} → ((us : List ℕ) (d : Cursor) → P us d → Q us d) → Settles P vs t c level r → Settles Q vs t c level r
+settles_as {vs} f s = record { stays = λ d e. f vs d (s.stays d e); asks = s.asks; goes = λ e us d g. f us d (s.goes e us d g) }
 
 module _ (k : Kind) where
   -- the status decides
@@ -153,17 +166,17 @@ module _ (k : Kind) where
         (λ z h. absurd (clash (cc a.says))) (λ z h. absurd (clash (cc a.says))) (λ z y h. y) (λ z y h. absurd (clash (cc a.says)))
 
   -- underflowed_node
-  module _ {ws : List ℕ} {t : ℕ} {c : Cursor} {level : ℕ} {near : Near} (f : Finds ws t c level near) where
-    pub under_none : {r : Cursor} → near ≡ Nothing → Leaves (λ s. stayed k s level) ws ws t c r → Leaves (under k level) ws ws t c r
+  module _ {ws : List ℕ} {t : ℕ} {c : Cursor} {level : ℕ} {near : Option Item} (f : Finds ws t c level near) where
+    pub under_none : {r : Cursor} → near ≡ None → Leaves (λ s. stayed k s level) ws ws t c r → Leaves (under k level) ws ws t c r
     unfolding under
     under_none {r} e g = record {
       run = λ m sp.
-          subst (λ (x : Option Item). Spelt ws t r (moved m (under_with k.ops k.cap x (empty_node inner_ops level) level m.s))) (sym (ap near_of e) ∙ f.run m sp) (g.run m sp);
+          subst (λ (x : Option Item). Spelt ws t r (moved m (under_with k.ops k.cap x (empty_node inner_ops level) level m.s))) (sym (e) ∙ f.run m sp) (g.run m sp);
     }
 
-    module _ {key node : ℕ} (e : near ≡ Right key node) where
-      right : (m : Mem) → Spelt ws t c m → right_sibling m.s.st m.s.ns m.s.ps level ≡ some (key, node)
-      right m sp = sym (f.run m sp) ∙ ap near_of e
+    module _ {key node : ℕ} (e : near ≡ Some (key, node)) where
+      right : (m : Mem) → Spelt ws t c m → right_sibling m.s.st m.s.ns m.s.ps level ≡ Some (key, node)
+      right m sp = sym (f.run m sp) ∙ e
 
       pub ask_join : AskHeal k ws t c Underflow level → AskJoin k ws t c level key node
       ask_join a = record { heal = a; finds = subst (Finds ws t c level) e f }
@@ -264,7 +277,7 @@ ask_cut {ws} {vs} {us} {t} {c} {level} {status} a h f k = by level a.deep h a.re
         })
 
 -- empty_node's end
-pub empties : {ws vs us xs : List ℕ} {t : ℕ} {c d r : Cursor} {level : ℕ} {status : Removed} {near : Near} → level < 16 → 0 < level → Leaves (λ s. free_node s (get_or c.nodes level 0)) ws vs t c c → Finds vs t c level near →
+pub empties : {ws vs us xs : List ℕ} {t : ℕ} {c d r : Cursor} {level : ℕ} {status : Removed} {near : Option Item} → level < 16 → 0 < level → Leaves (λ s. free_node s (get_or c.nodes level 0)) ws vs t c c → Finds vs t c level near →
     Cuts inner_kind vs us t c (level - 1) status → Mends inner_kind us xs t c d status (level - 1) → Passes d r level near → Leaves (emptied level) ws xs t c r
 unfolding emptied healed
 empties {ws} {vs} {us} {xs} {t} {c} {d} {r} {level} {status} {near} b h f g k e st = record { run = empties-run level b h f g k e st }
@@ -285,13 +298,12 @@ empties {ws} {vs} {us} {xs} {t} {c} {d} {r} {level} {status} {near} b h f g k e 
         subst (λ (x : Option Item). Spelt xs t r (moved m (through_right x (suc l) (heal_level inner_ops 8 (empty_node inner_ops l) l (parent_cut inner_ops (free_node m.s (get_or c.nodes (suc l) 0)) l))))) nr sp4 in
         subst (λ (x : ℕ). Spelt xs t r (moved m (empty_from inner_ops (empty_node inner_ops l) l x m.s))) (sp.nodes (suc l) b) sp5
 
-pub empties_root : {ws vs : List ℕ} {t : ℕ} {c r : Cursor} {level : ℕ} → level ≤ 0 → Leaves (λ s. free_node s (get_or c.nodes level 0)) ws vs t c c → r.nodes ≡ c.nodes → r.places ≡ c.places → r.tree ≡ c.tree → r.size ≡ 0 →
-    Leaves (emptied level) ws vs t c r
+pub empties_root : {ws vs : List ℕ} {t : ℕ} {c r : Cursor} {level : ℕ} → level ≤ 0 → Leaves (λ s. free_node s (get_or c.nodes level 0)) ws vs t c c → r ≡ off_end c → Leaves (emptied level) ws vs t c r
 unfolding emptied
-empties_root {ws} {vs} {t} {c} {r} {level} b f a p tr q = record { run = at level b f }
+empties_root {ws} {vs} {t} {c} {r} {level} b f o = record { run = at level b f }
   where
     at : (level : ℕ) → level ≤ 0 → Leaves (λ s. free_node s (get_or c.nodes level 0)) ws vs t c c → (m : Mem) → Spelt ws t c m → Spelt vs t r (moved m (emptied level m.s))
     at (suc l) b f m sp = absurd (omega arith)
     at zero b f m sp =
         let n : get_or c.nodes 0 0 ≡ m.s.ns 0 = sp.nodes 0 (omega arith) in
-        spelt_off (subst (λ (x : ℕ). Spelt vs t c (moved m (free_node m.s x))) n (f.run m sp)) a p tr q
+        spelt_off (subst (λ (x : ℕ). Spelt vs t c (moved m (free_node m.s x))) n (f.run m sp)) o

@@ -22,9 +22,9 @@ use Rattle.heal.specs.Cycle.{Kind, leaf_kind, left, standing, healed, AskFront, 
 use Rattle.crit.proofs.SpeltLaws.{spelt_placed, spelt_level, same_count}
 use Rattle.heal.proofs.HealTree.{front_wounded, front_words, front_path}
 use Rattle.heal.proofs.HealReady.{within_once}
-use Rattle.heal.proofs.InnerOps.{inner_law}
-use Rattle.heal.proofs.LeafOps.{leaf_front_lem}
-use Rattle.heal.proofs.LeafLaws.{leaf_law, leaf_named}
+use Rattle.heal.specs.KindLaws.{leaf_heals, inner_law}
+use Rattle.node.proofs.Words.{leaf_front_lem}
+use Rattle.heal.proofs.LeafLaws.{leaf_named}
 
 -- update_front
 module _ {ws : List ℕ} {t : ℕ} {c : Cursor} {level : ℕ} (a : AskFront ws t c level) where
@@ -92,15 +92,15 @@ module _ {ws vs us : List ℕ} {t : ℕ} {c : Cursor} {level : ℕ} {status : Re
 
   ready : Wounded leaf_words 7 3 a.mem.count level s_f
   ready = at_level (λ l. Wounded leaf_words 7 3 a.mem.count l (fronted leaf_ops 7 inner_ops leaf_front (parent_cut leaf_ops s l) l))
-      (front_wounded leaf_law inner_law leaf_front leaf_front_lem a.row a.rows a.at s a.inside a.fill a.stacked once a.holds a.up a.place a.path a.two a.mem.count a.within)
+      (front_wounded leaf_heals.lawful inner_law leaf_front (λ xs h. leaf_front_lem xs) a.row a.rows a.at s a.inside a.fill a.stacked once a.holds a.up a.place a.path a.two a.mem.count a.within)
 
   same_words : s_f.st (s.ns level) ≡ s_b.st (s.ns level)
   same_words = at_level (λ l. (fronted leaf_ops 7 inner_ops leaf_front (parent_cut leaf_ops s l) l).st (s.ns l) ≡ (parent_cut leaf_ops s l).st (s.ns l))
-      (front_words leaf_law inner_law leaf_front leaf_front_lem a.row a.rows a.at s a.inside a.fill a.stacked once a.holds a.up a.place a.path)
+      (front_words leaf_heals.lawful inner_law leaf_front (λ xs h. leaf_front_lem xs) a.row a.rows a.at s a.inside a.fill a.stacked once a.holds a.up a.place a.path)
 
   same_path_lem : (s_f.ns ≡ s.ns) × (s_f.ps ≡ s.ps)
   same_path_lem = at_level (λ l. ((fronted leaf_ops 7 inner_ops leaf_front (parent_cut leaf_ops s l) l).ns ≡ s.ns) × ((fronted leaf_ops 7 inner_ops leaf_front (parent_cut leaf_ops s l) l).ps ≡ s.ps))
-      (front_path leaf_law inner_law leaf_front leaf_front_lem a.row a.rows a.at s a.inside a.fill a.stacked once a.holds a.up a.place a.path)
+      (front_path leaf_heals.lawful inner_law leaf_front (λ xs h. leaf_front_lem xs) a.row a.rows a.at s a.inside a.fill a.stacked once a.holds a.up a.place a.path)
 
   says : status ≡ standing leaf_kind s_f level
   says =

@@ -2,7 +2,7 @@
 use mathlib.Core.Path.{◌≡◌, refl, sym, ap, ◌∙◌}
 use mathlib.Core.List.{List, ◌∷◌, ◌++◌}
 use mathlib.Core.Bool.{true, false}
-use mathlib.Core.Option.{none, some}
+use Rattle.std.specs.Prelude.{Some, None}
 use Prim.Native.Nat.{ℕ, suc, ◌+◌, ◌*◌, ◌≤◌, ◌<◌}
 use native.Mathlib.Omega.{arith}
 use lib.ListN.{length, take, drop, get_or, length-append, length-map, length-take}
@@ -114,7 +114,7 @@ module _ {enc : List Item → List ℕ} {cap low : ℕ} {o : Ops} (law : Lawful 
     is_last : ltb (suc (parent (sizes S) i)) (length S) ≡ false → suc (parent (sizes S) i) ≡ length S
     is_last f = let y = ltb-false (suc (parent (sizes S) i)) (length S) f in omega (arith, par_in)
 
-    right_none : suc (parent (sizes S) i) ≡ length S → HealPath.right_sibling s.st s.ns s.ps (length Ss) ≡ none
+    right_none : suc (parent (sizes S) i) ≡ length S → HealPath.right_sibling s.st s.ns s.ps (length Ss) ≡ None
     right_none e = HealPath.right_none s.st s.ns s.ps C (parent (sizes S) i) Ss (omega (arith, length-C)) stacked hu path_c
 
     -- the node and its right neighbour
@@ -140,10 +140,10 @@ module _ {enc : List Item → List ℕ} {cap low : ℕ} {o : Ops} (law : Lawful 
       right-words : s.st (HealRows.num_at C (suc (parent (sizes S) i))) ≡ enc ys
       right-words = HealMem.holds_at enc s.st C (suc (parent (sizes S) i)) next_c row
 
-      right_some : HealPath.right_sibling s.st s.ns s.ps (length Ss) ≡ some (front ys, HealRows.num_at C (suc (parent (sizes S) i)))
+      right_some : HealPath.right_sibling s.st s.ns s.ps (length Ss) ≡ Some (front ys, HealRows.num_at C (suc (parent (sizes S) i)))
       right_some =
           HealPath.right_is s.st s.ns s.ps C (parent (sizes S) i) Ss next_c stacked hu path_c ∙
-          ap some (HealRows.line_at (0, 0) C (suc (parent (sizes S) i)) next_c)
+          ap Some (HealRows.line_at (0, 0) C (suc (parent (sizes S) i)) next_c)
 
       once_c : HealMem.Once (nums C ++ numbers Ss)
       once_c = rw (HealRows.upd-nums (parent (sizes S) i) (remove_at (offset (sizes S) i)) S) once

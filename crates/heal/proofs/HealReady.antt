@@ -2,7 +2,7 @@
 use mathlib.Core.Path.{◌≡◌, refl, sym, ap, ◌∙◌, subst}
 use mathlib.Core.List.{List, [], ◌∷◌, ◌++◌}
 use mathlib.Core.Bool.{◌&&◌}
-use mathlib.Core.Option.{some}
+use Rattle.std.specs.Prelude.{Some}
 use Prim.Native.Nat.{ℕ, suc, ◌+◌, ◌≤◌, ◌<◌}
 use native.Mathlib.Omega.{arith}
 use lib.ListN.{length, get_or, length-map}
@@ -155,14 +155,14 @@ module _ {enc : List Item → List ℕ} {cap low : ℕ} {o : Ops} (law : Lawful 
       subst (λ (v : List ℕ). Emptied N L (stored s (HealStep.hand_key (HealMem.put s.st mate v) s.ns s.ps L))) (sym ga)
       (emptied _ (HealStep.merge_ready enc C (parent (sizes w.row) w.at) w.rows s.st s.ns s.ps st h some-xs once_c row w.up path_c (enc (xs ++ ys)) refl) h)
 
-  pub ready_merge : (x : Item) → 1 ≤ o.entries (s.st (s.ns l)) → HealPath.right_sibling s.st s.ns s.ps l ≡ some x →
+  pub ready_merge : (x : Item) → 1 ≤ o.entries (s.st (s.ns l)) → HealPath.right_sibling s.st s.ns s.ps l ≡ Some x →
       o.entries (s.st (s.ns l)) + o.entries (s.st x.1) ≤ cap →
       Emptied N l (stored s (HealStep.hand_key (HealMem.put s.st x.1 (o.gather (s.st (s.ns l)) (s.st x.1) x.0)) s.ns s.ps l))
-  ready_merge x = subst (λ (l : ℕ). 1 ≤ o.entries (s.st (s.ns l)) → HealPath.right_sibling s.st s.ns s.ps l ≡ some x →
+  ready_merge x = subst (λ (l : ℕ). 1 ≤ o.entries (s.st (s.ns l)) → HealPath.right_sibling s.st s.ns s.ps l ≡ Some x →
       o.entries (s.st (s.ns l)) + o.entries (s.st x.1) ≤ cap →
       Emptied N l (stored s (HealStep.hand_key (HealMem.put s.st x.1 (o.gather (s.st (s.ns l)) (s.st x.1) x.0)) s.ns s.ps l))) w.level (at_rows x)
     where
-      at_rows : (x : Item) → 1 ≤ o.entries (s.st (s.ns L)) → HealPath.right_sibling s.st s.ns s.ps L ≡ some x →
+      at_rows : (x : Item) → 1 ≤ o.entries (s.st (s.ns L)) → HealPath.right_sibling s.st s.ns s.ps L ≡ Some x →
           o.entries (s.st (s.ns L)) + o.entries (s.st x.1) ≤ cap →
           Emptied N L (stored s (HealStep.hand_key (HealMem.put s.st x.1 (o.gather (s.st (s.ns L)) (s.st x.1) x.0)) s.ns s.ps L))
       at_rows x some_left right fits = elim w.left [
@@ -170,7 +170,7 @@ module _ {enc : List Item → List ℕ} {cap low : ℕ} {o : Ops} (law : Lawful 
         | alive more st row ↦ elim (test (ltb (suc (parent (sizes w.row) w.at)) (length C))) [
           | is e ↦
               let h = ltb-true (suc (parent (sizes w.row) w.at)) (length C) e in
-              let r = HealPath.right_is s.st s.ns s.ps C (parent (sizes w.row) w.at) w.rows h st w.up path_c ∙ ap some (HealRows.line_at (0, 0) C (suc (parent (sizes w.row) w.at)) h) in
+              let r = HealPath.right_is s.st s.ns s.ps C (parent (sizes w.row) w.at) w.rows h st w.up path_c ∙ ap Some (HealRows.line_at (0, 0) C (suc (parent (sizes w.row) w.at)) h) in
               let q : ◌≡◌ {A = Item} (front ys, mate) x = cc (r, right) in
               subst (λ (x : Item). o.entries (s.st (s.ns L)) + o.entries (s.st x.1) ≤ cap →
               Emptied N L (stored s (HealStep.hand_key (HealMem.put s.st x.1 (o.gather (s.st (s.ns L)) (s.st x.1) x.0)) s.ns s.ps L))) q

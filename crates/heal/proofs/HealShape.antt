@@ -4,17 +4,17 @@ use mathlib.Core.List.{List, [], ◌∷◌, ◌++◌}
 use mathlib.Core.Bool.{Bool, true, false, cond}
 use Prim.Native.Nat.{ℕ, zero, suc, ◌+◌, ◌-◌, ◌*◌, ◌≤◌, ◌<◌, min}
 use native.Mathlib.Omega.{arith}
-use lib.ListN.{length, take, drop, get_or, length-append, length-take, length-drop}
+use lib.ListN.{length, take, get_or, length-append, length-take, length-drop}
 use lib.Dec.{ltb, eqb, leb}
 use borrow.Author.Tests.{ltb-true, ltb-false}
 use Rattle.forest.specs.Lists.{remove_at, sum, count, pad, parent, offset}
 use Rattle.forest.specs.Pairs.{Item}
-use Rattle.forest.specs.Rows.{Node, Row, size, front, nums, sizes, items_at, drop_row, alone, heal, without}
+use Rattle.forest.specs.Rows.{Node, Row, size, nums, sizes, items_at, drop_row, alone, heal, without}
 use Rattle.forest.specs.Trees.{numbers, drop_at, drop_up, freed_up, lost}
 use Rattle.forest.specs.Pools.{push_all}
 use Rattle.forest.proofs.ListLaws.{is, isnt, test, cons_eq, map-append}
 use Rattle.crit.specs.States.{State}
-use Rattle.heal.specs.Steps.{Ops}
+pub use Rattle.heal.specs.Kinds.{Lawful}
 use Rattle.crit.proofs.HealRows
 use Rattle.crit.proofs.HealStack
 use Rattle.crit.proofs.HealMem
@@ -22,22 +22,6 @@ use Rattle.crit.proofs.HealPath
 use Rattle.heal.proofs.HealMend
 use Rattle.heal.proofs.HealStep
 use Rattle.forest.proofs.UniqueLaws.{nums-length}
-
--- what the operations on a node's words do to the words of items, with capacity and least fill
-pub record Lawful (o : Ops) (enc : List Item → List ℕ) (cap low : ℕ) : Type 0 where
-  pub least_two : 2 ≤ low
-  pub least_half : 2 * low ≤ suc cap
-  pub entries_is : (xs : List Item) → 1 ≤ length xs → o.entries (enc xs) ≡ length xs
-  pub entries_none : o.entries (pad 16 []) ≡ 0
-  pub cut_is : (xs : List Item) (i : ℕ) → i < length xs → 2 ≤ length xs → length xs ≤ cap → o.cut (enc xs) i ≡ enc (remove_at i xs)
-  pub cut_none : (xs : List Item) (i : ℕ) → length xs ≡ 1 → o.cut (enc xs) i ≡ pad 16 []
-  pub gather_is : (xs ys : List Item) → 1 ≤ length xs → 1 ≤ length ys → length xs + length ys ≤ cap → o.gather (enc xs) (enc ys) (front ys) ≡ enc (xs ++ ys)
-  pub left_is : (xs ys : List Item) → 1 ≤ length xs → length xs ≤ cap → length ys ≤ cap → cap < length xs + length ys →
-      o.left (enc xs) (enc ys) (front ys) ≡ enc (take (HealMend.keep (xs ++ ys)) (xs ++ ys))
-  pub right_is : (xs ys : List Item) → 1 ≤ length xs → length xs ≤ cap → length ys ≤ cap → cap < length xs + length ys →
-      o.right (enc xs) (enc ys) (front ys) ≡ enc (drop (HealMend.keep (xs ++ ys)) (xs ++ ys))
-  pub mid_is : (xs ys : List Item) → 1 ≤ length xs → length xs ≤ cap → length ys ≤ cap → cap < length xs + length ys →
-      o.mid (enc xs) (enc ys) (front ys) ≡ front (drop (HealMend.keep (xs ++ ys)) (xs ++ ys))
 
 -- where the cursor stands: on position j of n, or off the end
 pub data Where (n j : ℕ) (on : Type 0) (before after : Bool) : Type 0 where

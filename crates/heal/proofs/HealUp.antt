@@ -2,7 +2,7 @@
 use mathlib.Core.Path.{◌≡◌, refl, sym, ap, ◌∙◌, subst}
 use mathlib.Core.List.{List, [], ◌∷◌, ◌++◌}
 use mathlib.Core.Bool.{false}
-use mathlib.Core.Option.{some}
+use Rattle.std.specs.Prelude.{Some}
 use Prim.Native.Nat.{ℕ, zero, suc, ◌+◌, ◌≤◌, ◌<◌}
 use native.Mathlib.Omega.{arith}
 use lib.ListN.{length, get_or}
@@ -183,8 +183,8 @@ module _ {o : Ops} (law : Lawful o inner_words 8 4) (up : State → State) (R R'
   step = elim (test (ltb (suc j) (length R))) [
     | is e ↦
         let q = ltb-true (suc j) (length R) e in
-        let r : HealPath.right_sibling s_a.st s.ns s.ps (suc (length Ss)) ≡ some (front (items_at R (suc j)), HealRows.num_at R (suc j)) =
-        HealPath.right_is s_a.st s.ns s.ps R j (S ∷ Ss) q stacked hu_a p ∙ ap some (HealRows.line_at (0, 0) R (suc j) q) in
+        let r : HealPath.right_sibling s_a.st s.ns s.ps (suc (length Ss)) ≡ Some (front (items_at R (suc j)), HealRows.num_at R (suc j)) =
+        HealPath.right_is s_a.st s.ns s.ps R j (S ∷ Ss) q stacked hu_a p ∙ ap Some (HealRows.line_at (0, 0) R (suc j) q) in
         rw r (leaves (node_at s_c (suc (length Ss)) (HealRows.num_at R (suc j))) refl refl (λ x d. simp (ne_eqb x (suc (length Ss)) (omega arith))) refl
         (elim mended.stands [
           | here a w v ↦ here (omega (arith, length-R')) (

@@ -1,9 +1,9 @@
 -- PROOFS. A cut, a node that stays small, two neighbours that join: over the kind of the nodes
 use mathlib.Core.Path.{◌≡◌, refl, sym, ap, ◌∙◌, subst}
-use mathlib.Core.List.{List}
+use mathlib.Core.List.{List, ◌++◌}
 use mathlib.Core.Bool.{true, false, true≢false}
-use mathlib.Core.Option.{some}
-use Prim.Native.Nat.{ℕ, ◌+◌, ◌-◌, ◌≤◌, ◌<◌}
+use Rattle.std.specs.Prelude.{Some}
+use Prim.Native.Nat.{ℕ, suc, ◌+◌, ◌-◌, ◌≤◌, ◌<◌}
 use native.Mathlib.Omega.{arith}
 use lib.ListN.{length, get_or, take, drop}
 use lib.Dec.{ltb, leb}
@@ -15,14 +15,15 @@ use Rattle.forest.specs.declared.Cursor.{Cursor}
 use Rattle.forest.proofs.ListLaws.{is, isnt, test, length-remove_at, offset_lt}
 use Rattle.forest.proofs.RowLaws.{fill_at}
 use Rattle.pool.specs.Stores.{put, block, with_block, Placed}
-use Rattle.node.specs.Nodes.{status_of, keep, balance_of}
+use Rattle.node.specs.Nodes.{status_of, keep, keyed, cut_of, balance_of}
 use Rattle.node.specs.declared.Balanced.{Balanced}
 use Rattle.node.specs.declared.Removed.{Removed}
 use Rattle.node.specs.declared.Removed.TheVariants.{Underflow}
 use Rattle.node.proofs.OnItems.{balance_flag, balance_fits, balance_over}
 use Rattle.crit.specs.States.{right_sibling, right_set, hand_key, stored}
-use Rattle.crit.specs.Asks.{Mem, moved, Spelt, Route, Leaves}
-use Rattle.heal.specs.Cycle.{Kind, left, fits, gathered, shared, stayed, AskHeal, AskJoin, Joined, Cuts}
+use Rattle.crit.specs.Asks.{Mem, moved, Spelt, Route, Leaves, off_end}
+use Rattle.heal.specs.Cycle.{Kind, left, fits, gathered, shared, stayed, AskHeal, AskJoin, AskCut, Joined, Cuts}
+use Rattle.heal.specs.Kinds.{HealLaws}
 use Rattle.crit.proofs.HealMem
 use Rattle.crit.proofs.SpeltLaws.{spelt_block, spelt_placed, spelt_store, spelt_level, same_count}
 use Rattle.crit.proofs.NextLaws.{spelt_off}
@@ -30,11 +31,18 @@ use Rattle.heal.proofs.HealUp.{Lawful}
 use Rattle.heal.proofs.WoundLaws.{Held, held_here, held_mate}
 use Rattle.heal.proofs.CycleLaws.{heal_way_put, some_left}
 
-module _ (k : Kind) (law : Lawful k.ops k.words k.cap k.low) (sixteen : (xs : List Item) → length (k.words xs) ≡ 16) where
+module _ {k : Kind} {cap tag hid : ℕ} {words : List Item → List ℕ} {items : List ℕ → List Item} {Is : List ℕ → Type 0} (laws : HealLaws k cap tag hid words items Is) where
+  abbrev law : Lawful k.ops k.words k.cap k.low
+  law = laws.lawful
+
+  -- the items of two neighbours with a key between them
+  abbrev both : List ℕ → List ℕ → ℕ → List Item
+  both w v key = items w ++ keyed hid key (items v)
+
   -- the words of a node without an item
   cut_length : (xs : List Item) (p : ℕ) → p < length xs → length xs ≤ k.cap → length (k.ops.cut (k.words xs) p) ≡ 16
   cut_length xs p h f = elim (test (ltb 1 (length xs))) [
-    | is e ↦ ap length (law.cut_is xs p h (borrow.Author.Tests.ltb-true 1 (length xs) e) f) ∙ sixteen (remove_at p xs)
+    | is e ↦ ap length (law.cut_is xs p h (borrow.Author.Tests.ltb-true 1 (length xs) e) f) ∙ laws.sixteen (remove_at p xs)
     | isnt e ↦ ap length (law.cut_none xs p (let z = borrow.Author.Tests.ltb-false 1 (length xs) e in omega arith))
   ]
 
@@ -50,24 +58,46 @@ module _ (k : Kind) (law : Lawful k.ops k.words k.cap k.low) (sixteen : (xs : Li
   ]
 
   -- a cut
-  pub cuts : {ws vs : List ℕ} {t : ℕ} {c : Cursor} {m0 : Mem} {status : Removed} (l : ℕ) (xs : List Item) → Spelt ws t c m0 → l < 16 → 1 ≤ get_or c.nodes l 0 → get_or c.nodes l 0 ≤ m0.count →
-      block ws t (get_or c.nodes l 0) ≡ k.words xs → get_or c.places l 0 < length xs → length xs ≤ k.cap → vs ≡ with_block ws t (get_or c.nodes l 0) (k.ops.cut (k.words xs) (get_or c.places l 0)) →
-      status ≡ status_of k.cap (get_or c.places l 0) (length xs - 1) → Cuts k ws vs t c l status
-  cuts {ws} {vs} {t} {c} {m0} {status} l xs sp0 d lo hi w p f v q = record {
-    leaves = λ m sp.
-        let n = sp.nodes l d in
-        let a : get_or c.places l 0 ≡ m.s.ps l = sp.places l d in
-        let b : k.words xs ≡ m.s.st (m.s.ns l) = sym w ∙ spelt_level sp l d lo (rw (← (same_count sp0 sp)) hi) in
-        subst (λ (x : ℕ × List ℕ). Spelt vs t c (moved m (stored m.s (put m.s.st x.0 x.1)))) (λ i. (n i, k.ops.cut (b i) (a i)))
-        (rw v (spelt_store sp (get_or c.nodes l 0) lo (rw (← (same_count sp0 sp)) hi) (k.ops.cut (k.words xs) (get_or c.places l 0)) (cut_length xs (get_or c.places l 0) p f)));
-    says = λ m sp.
-        let sp1 = spelt_store sp0 (get_or c.nodes l 0) lo hi (k.ops.cut (k.words xs) (get_or c.places l 0)) (cut_length xs (get_or c.places l 0) p f) in
-        let sp2 = rw (← v) at sp1 in
-        let e : m.s.st (get_or c.nodes l 0) ≡ k.ops.cut (k.words xs) (get_or c.places l 0) =
-        sym (spelt_block sp (get_or c.nodes l 0) lo (rw (← (same_count sp2 sp)) hi)) ∙ spelt_block sp2 (get_or c.nodes l 0) lo hi ∙ HealMem.put_same m0.s.st (get_or c.nodes l 0) (k.ops.cut (k.words xs) (get_or c.places l 0)) in
-        let g : left k m.s l ≡ length xs - 1 = ap (λ (x : ℕ). k.ops.entries (m.s.st x)) (sym (sp.nodes l d)) ∙ ap k.ops.entries e ∙ cut_left xs (get_or c.places l 0) p f in
-        q ∙ ap (λ (x : ℕ). status_of k.cap x (length xs - 1)) (sp.places l d) ∙ ap (status_of k.cap (m.s.ps l)) (sym g);
-  }
+  module _ {ws : List ℕ} {t : ℕ} {c : Cursor} {l : ℕ} (a : AskCut k ws t c l) where
+    cut_name : get_or c.nodes l 0 ≡ a.mem.s.ns l
+    cut_name = a.spelt.nodes l a.deep
+
+    pub cut_placed : Placed ws t (get_or c.nodes l 0)
+    cut_placed = rw cut_name (spelt_placed a.spelt (a.mem.s.ns l) a.some a.few)
+
+    cut-block : block ws t (get_or c.nodes l 0) ≡ k.words a.items
+    cut-block = rw cut_name (spelt_block a.spelt (a.mem.s.ns l) a.some a.few ∙ a.words)
+
+    cut_place : get_or c.places l 0 < length a.items
+    cut_place = rw (a.spelt.places l a.deep) a.inside
+
+    module _ (w : List ℕ) (e : w ≡ block ws t (get_or c.nodes l 0)) where
+      pub cut_asks : Is w × (get_or c.places l 0 < get_or w 0 0 - tag)
+      cut_asks = rw (e ∙ cut-block) (laws.is a.items (omega (arith, cut_place)) a.room, omega (arith, cut_place, laws.counts a.items (omega (arith, cut_place))))
+
+      pub cuts : {vs cw : List ℕ} {status : Removed} → vs ≡ with_block ws t (get_or c.nodes l 0) cw → cw ≡ cut_of tag words items w (get_or c.places l 0) →
+          status ≡ status_of cap (get_or c.places l 0) (get_or w 0 0 - suc tag) → Cuts k ws vs t c l status
+      cuts {vs} {cw} {status} v0 cq q0 =
+          let lo : 1 ≤ get_or c.nodes l 0 = rw cut_name a.some in
+          let hi : get_or c.nodes l 0 ≤ a.mem.count = rw cut_name a.few in
+          let n0 : get_or w 0 0 ≡ tag + length a.items = rw (e ∙ cut-block) (laws.counts a.items (omega (arith, cut_place))) in
+          let v : vs ≡ with_block ws t (get_or c.nodes l 0) (k.ops.cut (k.words a.items) (get_or c.places l 0)) = v0 ∙ rw (cq, ← (laws.cut w (get_or c.places l 0)), e, cut-block) in
+          let q : status ≡ status_of k.cap (get_or c.places l 0) (length a.items - 1) = q0 ∙ rw laws.same_cap (ap (status_of k.cap (get_or c.places l 0)) (omega (arith, n0))) in
+          record {
+            leaves = λ m sp.
+                let n = sp.nodes l a.deep in
+                let p : get_or c.places l 0 ≡ m.s.ps l = sp.places l a.deep in
+                let b : k.words a.items ≡ m.s.st (m.s.ns l) = sym cut-block ∙ spelt_level sp l a.deep lo (rw (← (same_count a.spelt sp)) hi) in
+                subst (λ (x : ℕ × List ℕ). Spelt vs t c (moved m (stored m.s (put m.s.st x.0 x.1)))) (λ i. (n i, k.ops.cut (b i) (p i)))
+                (rw v (spelt_store sp (get_or c.nodes l 0) lo (rw (← (same_count a.spelt sp)) hi) (k.ops.cut (k.words a.items) (get_or c.places l 0)) (cut_length a.items (get_or c.places l 0) cut_place a.room)));
+            says = λ m sp.
+                let sp1 = spelt_store a.spelt (get_or c.nodes l 0) lo hi (k.ops.cut (k.words a.items) (get_or c.places l 0)) (cut_length a.items (get_or c.places l 0) cut_place a.room) in
+                let sp2 = rw (← v) at sp1 in
+                let b : m.s.st (get_or c.nodes l 0) ≡ k.ops.cut (k.words a.items) (get_or c.places l 0) =
+                sym (spelt_block sp (get_or c.nodes l 0) lo (rw (← (same_count sp2 sp)) hi)) ∙ spelt_block sp2 (get_or c.nodes l 0) lo hi ∙ HealMem.put_same a.mem.s.st (get_or c.nodes l 0) (k.ops.cut (k.words a.items) (get_or c.places l 0)) in
+                let g : left k m.s l ≡ length a.items - 1 = ap (λ (x : ℕ). k.ops.entries (m.s.st x)) (sym (sp.nodes l a.deep)) ∙ ap k.ops.entries b ∙ cut_left a.items (get_or c.places l 0) cut_place a.room in
+                q ∙ ap (λ (x : ℕ). status_of k.cap x (length a.items - 1)) (sp.places l a.deep) ∙ ap (status_of k.cap (m.s.ps l)) (sym g);
+          }
 
   module _ {ws : List ℕ} {t : ℕ} {c : Cursor} {level : ℕ} (a : AskHeal k ws t c Underflow level) where
     -- the words of the node
@@ -89,6 +119,9 @@ module _ (k : Kind) (law : Lawful k.ops k.words k.cap k.low) (sixteen : (xs : Li
     pub here_words : (w : List ℕ) → w ≡ block ws t (get_or c.nodes level 0) → w ≡ k.words here.items
     here_words w e = e ∙ here-block
 
+    pub here_is : (w : List ℕ) → w ≡ block ws t (get_or c.nodes level 0) → Is w
+    here_is w e = rw (here_words w e) (laws.is here.items here.one here.room)
+
     left_of_lem : (m : Mem) → Spelt ws t c m → left k m.s level ≡ length here.items
     left_of_lem m sp = ap k.ops.entries (sym (here_of m sp) ∙ here-block) ∙ law.entries_is here.items here.one
 
@@ -98,23 +131,27 @@ module _ (k : Kind) (law : Lawful k.ops k.words k.cap k.low) (sixteen : (xs : Li
         omega (arith, a.spelt.places level a.deep, offset_lt (sizes a.ready.row) a.ready.at a.ready.inside, fill_at k.low k.cap (sizes a.ready.row) (parent (sizes a.ready.row) a.ready.at) a.ready.fill)
 
     -- it stays small
-    pub stays_on : get_or c.places level 0 < length here.items → Leaves (λ s. stayed k s level) ws ws t c c
-    stays_on h = record {
-      run = λ m sp.
-          let e : ltb (m.s.ps level) (left k m.s level) ≡ true = rw (left_of_lem m sp, ← (sp.places level a.deep)) (lt-ltb _ _ h) in
-          simp e sp;
-    }
+    module _ (w : List ℕ) (e : w ≡ block ws t (get_or c.nodes level 0)) where
+      pub here_count : get_or w 0 0 ≡ tag + length here.items
+      here_count = rw (here_words w e) (laws.counts here.items here.one)
 
-    pub stays_off : {r : Cursor} → length here.items ≤ get_or c.places level 0 → r.nodes ≡ c.nodes → r.places ≡ c.places → r.tree ≡ c.tree → r.size ≡ 0 → Leaves (λ s. stayed k s level) ws ws t c r
-    stays_off {r} h x y tr z = record {
-      run = λ m sp.
-          let e : ltb (m.s.ps level) (left k m.s level) ≡ false = rw (left_of_lem m sp, ← (sp.places level a.deep)) (le-ltb _ _ h) in
-          simp e (spelt_off sp x y tr z);
-    }
+      pub stays_on : get_or c.places level 0 < get_or w 0 0 - tag → Leaves (λ s. stayed k s level) ws ws t c c
+      stays_on h = record {
+        run = λ m sp.
+            let e : ltb (m.s.ps level) (left k m.s level) ≡ true = rw (left_of_lem m sp, ← (sp.places level a.deep)) (lt-ltb _ _ (omega (arith, here_count))) in
+            simp e sp;
+      }
+
+      pub stays_off : {r : Cursor} → get_or w 0 0 - tag ≤ get_or c.places level 0 → r ≡ off_end c → Leaves (λ s. stayed k s level) ws ws t c r
+      stays_off {r} h o = record {
+        run = λ m sp.
+            let e : ltb (m.s.ps level) (left k m.s level) ≡ false = rw (left_of_lem m sp, ← (sp.places level a.deep)) (le-ltb _ _ (omega (arith, here_count))) in
+            simp e (spelt_off sp o);
+      }
 
   -- two neighbours
   module _ {ws : List ℕ} {t : ℕ} {c : Cursor} {level key node : ℕ} (j : AskJoin k ws t c level key node) where
-    right : right_sibling j.heal.mem.s.st j.heal.mem.s.ns j.heal.mem.s.ps level ≡ some (key, node)
+    right : right_sibling j.heal.mem.s.st j.heal.mem.s.ns j.heal.mem.s.ps level ≡ Some (key, node)
     right = sym (j.finds.run j.heal.mem j.heal.spelt)
 
     pub mate : Held k.words k.cap j.heal.mem.count j.heal.ready.row j.heal.mem.s.st node
@@ -126,6 +163,9 @@ module _ (k : Kind) (law : Lawful k.ops k.words k.cap k.low) (sixteen : (xs : Li
     pub mate_words : (v : List ℕ) → v ≡ block ws t node → v ≡ k.words mate.items
     mate_words v e = e ∙ spelt_block j.heal.spelt node mate.some mate.few ∙ mate.words
 
+    pub mate_is : (v : List ℕ) → v ≡ block ws t node → Is v
+    mate_is v e = rw (mate_words v e) (laws.is mate.items mate.one mate.room)
+
     mate-of : (m : Mem) → Spelt ws t c m → block ws t node ≡ m.s.st node
     mate-of m sp = spelt_block sp node mate.some (rw (← (same_count j.heal.spelt sp)) mate.few)
 
@@ -133,39 +173,42 @@ module _ (k : Kind) (law : Lawful k.ops k.words k.cap k.low) (sixteen : (xs : Li
     hi_of m sp = rw (← (same_count j.heal.spelt sp)) mate.few
 
     -- storing the neighbour's words, and both
-    module _ (w v : List ℕ) (ew : w ≡ block ws t (get_or c.nodes level 0)) (ev : v ≡ block ws t node) (us : List Item) (b : Balanced) (eb : b ≡ balance_of k.words k.cap us)
-        (size : length us ≡ k.ops.entries w + k.ops.entries v)
-        (eg : k.ops.gather w v key ≡ k.words us) (el : k.ops.left w v key ≡ k.words (take (keep us) us))
-        (er : k.ops.right w v key ≡ k.words (drop (keep us) us)) (em : k.ops.mid w v key ≡ front (drop (keep us) us)) where
+    module _ (w v : List ℕ) (ew : w ≡ block ws t (get_or c.nodes level 0)) (ev : v ≡ block ws t node) (b : Balanced) (eb0 : b ≡ balance_of words cap (both w v key)) where
+      abbrev us : List Item
+      us = both w v key
+
+      eb : b ≡ balance_of k.words k.cap us
+      eb = eb0 ∙ rw (laws.same_words, laws.same_cap)
+
       flag : b.all ≡ leb (length us) k.cap
       flag = ap (λ (x : Balanced). x.all) eb ∙ balance_flag k.words k.cap us
 
-      fits-of : (m : Mem) (x : Item) → Spelt ws t c m → right_sibling m.s.st m.s.ns m.s.ps level ≡ some x → leb (length us) k.cap ≡ fits k m.s level x
+      fits-of : (m : Mem) (x : Item) → Spelt ws t c m → right_sibling m.s.st m.s.ns m.s.ps level ≡ Some x → leb (length us) k.cap ≡ fits k m.s level x
       fits-of m x sp e =
           let q : ◌≡◌ {A = Item} (key, node) x = cc (j.finds.run m sp, e) in
           subst (λ (x : Item). leb (length us) k.cap ≡ fits k m.s level x) q
-          (ap (λ (n : ℕ). leb n k.cap) (size ∙ rw (ew ∙ here_of j.heal m sp, ev ∙ mate-of m sp)))
+          (ap (λ (n : ℕ). leb n k.cap) (laws.size w v key ∙ rw (ew ∙ here_of j.heal m sp, ev ∙ mate-of m sp)))
 
       full : b.all ≡ true → b.right ≡ k.ops.gather w v key
-      full h = ap (λ (x : Balanced). x.right) (eb ∙ balance_fits k.words k.cap us (borrow.Author.Tests.leb-true _ _ (sym flag ∙ h))) ∙ sym eg
+      full h = ap (λ (x : Balanced). x.right) (eb ∙ balance_fits k.words k.cap us (borrow.Author.Tests.leb-true _ _ (sym flag ∙ h))) ∙ sym (laws.gather w v key)
 
       module _ (h : b.all ≡ false) where
         parts : b ≡ record { all = false; left = k.words (take (keep us) us); right = k.words (drop (keep us) us); key = front (drop (keep us) us) }
         parts = eb ∙ balance_over k.words k.cap us (borrow.Author.Tests.leb-false _ _ (sym flag ∙ h))
 
         half-left : b.left ≡ k.ops.left w v key
-        half-left = ap (λ (x : Balanced). x.left) parts ∙ sym el
+        half-left = ap (λ (x : Balanced). x.left) parts ∙ sym (laws.left w v key)
 
         half-right : b.right ≡ k.ops.right w v key
-        half-right = ap (λ (x : Balanced). x.right) parts ∙ sym er
+        half-right = ap (λ (x : Balanced). x.right) parts ∙ sym (laws.right w v key)
 
         half-key : b.key ≡ k.ops.mid w v key
-        half-key = ap (λ (x : Balanced). x.key) parts ∙ sym em
+        half-key = ap (λ (x : Balanced). x.key) parts ∙ sym (laws.mid w v key)
 
       right-length : length b.right ≡ 16
       right-length = elim (test b.all) [
-        | is h ↦ ap length (full h ∙ eg) ∙ sixteen us
-        | isnt h ↦ ap length (half-right h ∙ er) ∙ sixteen (drop (keep us) us)
+        | is h ↦ ap length (full h ∙ laws.gather w v key) ∙ laws.sixteen us
+        | isnt h ↦ ap length (half-right h ∙ laws.right w v key) ∙ laws.sixteen (drop (keep us) us)
       ]
 
       -- all to the right
@@ -193,7 +236,7 @@ module _ (k : Kind) (law : Lawful k.ops k.words k.cap k.low) (sixteen : (xs : Li
       -- they share
       module _ (h : b.all ≡ false) (vs us' : List ℕ) (e1 : vs ≡ with_block ws t (get_or c.nodes level 0) b.left) (e2 : us' ≡ with_block vs t node b.right) where
         left-length : length b.left ≡ 16
-        left-length = ap length (half-left h ∙ el) ∙ sixteen (take (keep us) us)
+        left-length = ap length (half-left h ∙ laws.left w v key) ∙ laws.sixteen (take (keep us) us)
 
         stored-left : (m : Mem) → Spelt ws t c m → Spelt vs t c (moved m (stored m.s (put m.s.st (m.s.ns level) b.left)))
         stored-left m sp =

@@ -1,58 +1,26 @@
 -- PROOFS. Leaves: the cut at the cursor, a leaf that stays small, the pairs of two neighbours
-use mathlib.Core.Path.{◌≡◌, sym, ap, ◌∙◌, subst}
+use mathlib.Core.Path.{◌≡◌, ◌∙◌}
 use mathlib.Core.List.{List, ◌++◌}
-use Prim.Native.Nat.{ℕ, ◌+◌, ◌-◌, ◌≤◌, ◌<◌}
+use Prim.Native.Nat.{ℕ, ◌≤◌, ◌<◌}
 use native.Mathlib.Omega.{arith}
-use lib.ListN.{length, get_or, length-append}
+use lib.ListN.{length, get_or}
 use Rattle.forest.specs.Lists.{count, parent, offset}
 use Rattle.forest.specs.Pairs.{Item}
-use Rattle.forest.specs.Rows.{Row, nums, sizes, items_at}
+use Rattle.forest.specs.Rows.{nums, sizes, items_at}
 use Rattle.forest.specs.Trees.{numbers}
 use Rattle.forest.specs.Pools.{leaf_words}
 use Rattle.forest.specs.declared.Cursor.{Cursor}
 use Rattle.forest.proofs.RowLaws.{fill_at, length-items, parent_there, offset_there}
-use Rattle.pool.specs.Stores.{Store, block, with_block, Placed}
-use Rattle.node.specs.Nodes.{Leaf, leaf_pairs, leaf_cut, status_of}
 use Rattle.node.specs.declared.Removed.{Removed}
-use Rattle.node.specs.declared.Removed.TheVariants.{Underflow}
-use Rattle.node.proofs.Words.{leaf_is, length_pairs}
 use Rattle.crit.specs.Paths.{num_at}
-use Rattle.crit.specs.Asks.{moved, Leaves}
-use Rattle.heal.specs.Steps.{leaf_ops}
-use Rattle.heal.specs.Cycle.{leaf_kind, stayed, AskHeal, AskFront, Cuts, AskPair}
+use Rattle.crit.specs.Asks.{moved}
+use Rattle.heal.specs.Cycle.{leaf_kind, AskFront, AskCut, Cuts, AskPair}
 use Rattle.crit.proofs.HealMem
 use Rattle.crit.proofs.HealPath
-use Rattle.crit.proofs.SpeltLaws.{spelt_block, spelt_placed}
-use Rattle.heal.proofs.HealUp.{Lawful}
-use Rattle.heal.proofs.LeafOps
 use Rattle.heal.proofs.FreeLaws.{within_named}
-use Rattle.heal.proofs.WoundLaws.{Held}
-use Rattle.heal.proofs.JoinLaws
 use Rattle.heal.proofs.HealReady.{within_once}
 pub use Rattle.forest.proofs.CountLaws.{leaf_length}
 use Rattle.forest.proofs.WordLaws.{count-append}
-
-pub leaf_law : Lawful leaf_ops leaf_words 7 3
-leaf_law = LeafOps.leaf_law 3 (omega arith) (omega arith)
-
-module _ {ws : List ℕ} {t : ℕ} {c : Cursor} {level : ℕ} (a : AskHeal leaf_kind ws t c Underflow level) (w : List ℕ) (e : w ≡ block ws t (get_or c.nodes level 0)) where
-  abbrev items : List Item
-  items = (JoinLaws.here leaf_kind leaf_law leaf_length a).items
-
-  count_is : get_or w 0 0 ≡ 32 + length items
-  count_is = rw (JoinLaws.here_words leaf_kind leaf_law leaf_length a w e)
-
-  pub small_on : get_or c.places level 0 + 32 < get_or w 0 0 → Leaves (λ s. stayed leaf_kind s level) ws ws t c c
-  small_on h = JoinLaws.stays_on leaf_kind leaf_law leaf_length a (omega (arith, count_is))
-
-  pub small_off : {r : Cursor} → get_or w 0 0 ≤ get_or c.places level 0 + 32 → r.nodes ≡ c.nodes → r.places ≡ c.places → r.tree ≡ c.tree → r.size ≡ 0 → Leaves (λ s. stayed leaf_kind s level) ws ws t c r
-  small_off h = JoinLaws.stays_off leaf_kind leaf_law leaf_length a (omega (arith, count_is))
-
-pub both-length : (w v : List ℕ) → length (leaf_pairs w ++ leaf_pairs v) ≡ (get_or w 0 0 - 32) + (get_or v 0 0 - 32)
-both-length w v = length-append (leaf_pairs w) (leaf_pairs v) ∙ rw (length_pairs w, length_pairs v)
-
-pub held_leaf : {N : ℕ} {R : Row} {st : Store} {n : ℕ} (r : Held leaf_words 7 N R st n) (w : List ℕ) → w ≡ leaf_words r.items → Leaf w
-held_leaf r w e = rw e (leaf_is r.items r.one r.room)
 
 -- the leaf at the cursor
 module _ {ws : List ℕ} {t : ℕ} {c : Cursor} {level : ℕ} (a : AskPair ws t c level) where
@@ -85,26 +53,19 @@ module _ {ws : List ℕ} {t : ℕ} {c : Cursor} {level : ℕ} (a : AskPair ws t 
       within_named a.mem.count (nums a.row ++ numbers a.rows) a.mem.s.free a.within (get_or c.nodes level 0)
       (omega (arith, inside_count, count-append (get_or c.nodes level 0) (nums a.row) (numbers a.rows)))
 
-  pub leaf_placed : Placed ws t (get_or c.nodes level 0)
-  leaf_placed = spelt_placed a.spelt (get_or c.nodes level 0) leaf_named.0 leaf_named.1
-
-  words : block ws t (get_or c.nodes level 0) ≡ leaf_words xs
-  words = spelt_block a.spelt (get_or c.nodes level 0) leaf_named.0 leaf_named.1 ∙ rw leaf_name (HealMem.holds_at leaf_words a.mem.s.st a.row (parent (sizes a.row) a.at) par_in a.holds)
-
-  module _ (w : List ℕ) (e : w ≡ block ws t (get_or c.nodes level 0)) where
-    w-count : get_or w 0 0 ≡ 32 + length xs
-    w-count = ap (λ (v : List ℕ). get_or v 0 0) (e ∙ words)
-
-    pub leaf_asks : Leaf w × (get_or c.places level 0 < get_or w 0 0 - 32)
-    leaf_asks = (subst Leaf (sym (e ∙ words)) (leaf_is xs (omega (arith, off_in)) few_xs), omega (arith, w-count, leaf_place, off_in))
-
-    pub leaf_cut_lem : {vs cw : List ℕ} {status : Removed} → vs ≡ with_block ws t (get_or c.nodes level 0) cw → cw ≡ leaf_cut w (get_or c.places level 0) → status ≡ status_of 7 (get_or c.places level 0) (get_or w 0 0 - 33) →
-        Cuts leaf_kind ws vs t c level status
-    leaf_cut_lem v cq q =
-        let z : get_or w 0 0 - 33 ≡ length xs - 1 = omega (arith, w-count) in
-        JoinLaws.cuts leaf_kind leaf_law leaf_length level xs a.spelt a.deep leaf_named.0 leaf_named.1 words (omega (arith, leaf_place, off_in)) few_xs
-        (v ∙ ap (with_block ws t (get_or c.nodes level 0)) cq ∙ ap (λ (x : List ℕ). with_block ws t (get_or c.nodes level 0) (leaf_cut x (get_or c.places level 0))) (e ∙ words))
-        (q ∙ ap (status_of 7 (get_or c.places level 0)) z)
+  -- it may lose that pair
+  pub leaf_asks : AskCut leaf_kind ws t c level
+  leaf_asks = record {
+    deep = a.deep;
+    mem = a.mem;
+    spelt = a.spelt;
+    items = xs;
+    some = rw (← (a.spelt.nodes level a.deep)) leaf_named.0;
+    few = rw (← (a.spelt.nodes level a.deep)) leaf_named.1;
+    words = rw (← (a.spelt.nodes level a.deep), leaf_name) (HealMem.holds_at leaf_words a.mem.s.st a.row (parent (sizes a.row) a.at) par_in a.holds);
+    inside = rw (← (a.spelt.places level a.deep), leaf_place) off_in;
+    room = few_xs;
+  }
 
   -- the way above it, also with other words for the leaf
   pub front_asks : {vs : List ℕ} {status : Removed} → Cuts leaf_kind ws vs t c level status → AskFront vs t c level

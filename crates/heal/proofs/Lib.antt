@@ -8,8 +8,6 @@ pub mod HealUp
 pub mod FreeLaws
 pub mod HealReady
 pub mod HealTree
-pub mod InnerOps
-pub mod LeafOps
 pub mod CycleLaws
 pub mod WoundLaws
 pub mod JoinLaws

@@ -1,7 +1,7 @@
 -- PROOFS. The words of a wounded node and of its right neighbour; storing them leaves the way as it is
 use mathlib.Core.Path.{◌≡◌, sym, ap, ◌∙◌}
 use mathlib.Core.List.{List, [], ◌++◌}
-use mathlib.Core.Option.{some}
+use Rattle.std.specs.Prelude.{Some}
 use Prim.Native.Nat.{ℕ, suc, ◌≤◌, ◌<◌}
 use native.Mathlib.Omega.{arith}
 use lib.ListN.{length, get_or, length-map}
@@ -73,15 +73,15 @@ module _ {enc : List Item → List ℕ} {cap low : ℕ} {o : Ops} (law : Lawful 
   ]
 
   -- its right neighbour
-  pub held_mate : (x : Item) → 1 ≤ o.entries (s.st (s.ns l)) → right_sibling s.st s.ns s.ps l ≡ some x → Held enc cap N w.row s.st x.1
+  pub held_mate : (x : Item) → 1 ≤ o.entries (s.st (s.ns l)) → right_sibling s.st s.ns s.ps l ≡ Some x → Held enc cap N w.row s.st x.1
   held_mate x h r = elim w.left [
     | dead one st big zeros rest ↦ absurd (none_here one zeros h)
     | alive more st row ↦
-        let r2 : right_sibling s.st s.ns s.ps (length w.rows) ≡ some x = rw w.level r in
+        let r2 : right_sibling s.st s.ns s.ps (length w.rows) ≡ Some x = rw w.level r in
         elim (test (ltb (suc (parent (sizes w.row) w.at)) (length C))) [
           | is e ↦
               let b = ltb-true (suc (parent (sizes w.row) w.at)) (length C) e in
-              let q = HealPath.right_is s.st s.ns s.ps C (parent (sizes w.row) w.at) w.rows b st w.up (path_c law N l s w) ∙ ap some (HealRows.line_at (0, 0) C (suc (parent (sizes w.row) w.at)) b) in
+              let q = HealPath.right_is s.st s.ns s.ps C (parent (sizes w.row) w.at) w.rows b st w.up (path_c law N l s w) ∙ ap Some (HealRows.line_at (0, 0) C (suc (parent (sizes w.row) w.at)) b) in
               let i : ◌≡◌ {A = Item} (front (items_at C (suc (parent (sizes w.row) w.at))), num_at C (suc (parent (sizes w.row) w.at))) x = cc (q, r2) in
               let n : x.1 ≡ num_at C (suc (parent (sizes w.row) w.at)) = ap (λ (y : Item). y.1) (sym i) in
               let ly : length (items_at C (suc (parent (sizes w.row) w.at))) ≡ get_or (sizes w.row) (suc (parent (sizes w.row) w.at)) 0 =

@@ -1,6 +1,5 @@
--- DEFINITIONS. The cycle of three over words: what heal_level, underflowed_node and empty_node ask and leave, over the kind of the nodes at a level
-use Rattle.std.specs.Prelude.{◌≡◌, List, ◌++◌, Bool, true, false, ℕ, ◌≤◌, ◌<◌, length, get_or}
-use Rattle.std.proofs.Math.Option.{some}
+-- DEFINITIONS. Healing over words: what heal_level, underflowed_node and empty_node ask and leave, over the kind of the nodes at a level
+use Rattle.std.specs.Prelude.{◌≡◌, List, ◌++◌, Bool, true, false, ℕ, ◌≤◌, ◌<◌, length, get_or, Option, Some, None}
 use Rattle.forest.specs.Sizes.{most_levels, leaf_cap, inner_cap, leaf_least, inner_least}
 use Rattle.forest.specs.Lists.{sum, parent, offset}
 use Rattle.forest.specs.Pairs.{Item}
@@ -13,8 +12,7 @@ use Rattle.node.specs.declared.Removed.{Removed}
 use Rattle.node.specs.declared.Removed.TheVariants.{Underflow}
 use Rattle.crit.specs.States.{State, right_sibling}
 use Rattle.crit.specs.Paths.{Stacked, Holds, HoldsUp, Leads}
-use Rattle.crit.specs.Asks.{Mem, Spelt, Route, Finds, moved}
-use Rattle.crit.specs.declared.Near.TheVariants.{Right}
+use Rattle.crit.specs.Asks.{Mem, Spelt, Route, Finds, Leaves, moved}
 use Rattle.heal.specs.Steps
 use Rattle.heal.specs.Steps.{Ops, leaf_ops, inner_ops, parent_cut, heal_level, underflowed, empty_node}
 use Rattle.heal.specs.Wounds.{Within, Emptied, Wounded}
@@ -89,18 +87,25 @@ pub record AskHeal (k : Kind) (ws : List ℕ) (t : ℕ) (c : Cursor) (status : R
 -- two neighbours may be joined
 pub record AskJoin (k : Kind) (ws : List ℕ) (t : ℕ) (c : Cursor) (level key node : ℕ) : Type 0 where
   pub heal : AskHeal k ws t c Underflow level
-  pub finds : Finds ws t c level (Right key node)
+  pub finds : Finds ws t c level (Some (key, node))
 
--- two leaves may be joined, whatever the key between them
-pub record AskJoinLeaf (ws : List ℕ) (t : ℕ) (c : Cursor) (level node : ℕ) : Type 0 where
-  pub key : ℕ
-  pub ask : AskJoin leaf_kind ws t c level key node
+-- the node at a level may lose the item that the path goes through
+pub record AskCut (k : Kind) (ws : List ℕ) (t : ℕ) (c : Cursor) (level : ℕ) : Type 0 where
+  pub deep : level < most_levels
+  pub mem : Mem
+  pub spelt : Spelt ws t c mem
+  pub items : List Item
+  pub some : 1 ≤ mem.s.ns level
+  pub few : mem.s.ns level ≤ mem.count
+  pub words : mem.s.st (mem.s.ns level) ≡ k.words items
+  pub inside : mem.s.ps level < length items
+  pub room : length items ≤ k.cap
 
 -- all went to the right neighbour x, or they share
 pub record Joined (k : Kind) (ws vs : List ℕ) (t : ℕ) (c : Cursor) (level : ℕ) (all : Bool) : Type 0 where
-  pub all_is : (m : Mem) (x : Item) → Spelt ws t c m → right_sibling m.s.st m.s.ns m.s.ps level ≡ some x → all ≡ fits k m.s level x
-  pub gather_all : (m : Mem) (x : Item) → Spelt ws t c m → right_sibling m.s.st m.s.ns m.s.ps level ≡ some x → all ≡ true → Spelt vs t c (moved m (gathered k m.s level x))
-  pub share_some : (m : Mem) (x : Item) → Spelt ws t c m → right_sibling m.s.st m.s.ns m.s.ps level ≡ some x → all ≡ false → Spelt vs t c (moved m (shared k m.s level x))
+  pub all_is : (m : Mem) (x : Item) → Spelt ws t c m → right_sibling m.s.st m.s.ns m.s.ps level ≡ Some x → all ≡ fits k m.s level x
+  pub gather_all : (m : Mem) (x : Item) → Spelt ws t c m → right_sibling m.s.st m.s.ns m.s.ps level ≡ Some x → all ≡ true → Spelt vs t c (moved m (gathered k m.s level x))
+  pub share_some : (m : Mem) (x : Item) → Spelt ws t c m → right_sibling m.s.st m.s.ns m.s.ps level ≡ Some x → all ≡ false → Spelt vs t c (moved m (shared k m.s level x))
 
 -- the node at level l has lost its item, and how it stands
 pub record Cuts (k : Kind) (ws vs : List ℕ) (t : ℕ) (c : Cursor) (l : ℕ) (r : Removed) : Type 0 where
@@ -110,6 +115,12 @@ pub record Cuts (k : Kind) (ws vs : List ℕ) (t : ℕ) (c : Cursor) (l : ℕ) (
 -- heal_level has healed
 pub record Mends (k : Kind) (ws vs : List ℕ) (t : ℕ) (c r : Cursor) (status : Removed) (level : ℕ) : Type 0 where
   pub run : (m : Mem) → status ≡ standing k m.s level → Spelt ws t c m → Spelt vs t r (moved m (healed k level m.s))
+
+-- a node has settled as P says, or it is empty: then P holds once it went
+pub record Settles (P : List ℕ → Cursor → Type 0) (vs : List ℕ) (t : ℕ) (c : Cursor) (level : ℕ) (r : Option Cursor) : Type 0 where
+  pub stays : (d : Cursor) → r ≡ Some d → P vs d
+  pub asks : r ≡ None → AskEmpty vs t c level
+  pub goes : r ≡ None → (us : List ℕ) (d : Cursor) → Leaves (emptied level) vs us t c d → P us d
 
 -- the cursor is on a pair of a tree that has another: L are its leaves under the rows Rs
 pub record AskPair (ws : List ℕ) (t : ℕ) (c : Cursor) (level : ℕ) : Type 0 where

@@ -1,3 +1,5 @@
 pub mod Steps
 pub mod Wounds
 pub mod Cycle
+pub mod Kinds
+pub mod KindLaws

@@ -1,6 +1,5 @@
 -- DEFINITIONS. Taking an item out and healing upward, as steps on a state
-use Rattle.std.specs.Prelude.{List, ◌∷◌, ◌++◌, Bool, false, cond, ℕ, zero, suc, ◌+◌, ◌-◌, ◌*◌, take, drop, get_or, ltb, leb, eqb}
-use Rattle.std.proofs.Math.Option.{Option, none, some}
+use Rattle.std.specs.Prelude.{List, ◌∷◌, ◌++◌, Bool, false, cond, ℕ, zero, suc, ◌+◌, ◌-◌, ◌*◌, take, drop, get_or, ltb, leb, eqb, Option, Some, None}
 use Rattle.forest.specs.Sizes.{leaf_cap, inner_cap, leaf_tag}
 use Rattle.forest.specs.Pairs.{Item}
 use Rattle.forest.specs.Rows.{front}
@@ -79,8 +78,8 @@ module _ (o : Ops) (cap : ℕ) where
 
   -- underflowed_node with the neighbour found; `up` is empty_node at this level
   abbrev pub under_with : Option Item → (State → State) → ℕ → State → State
-  under_with none up l s = stayed s l
-  under_with (some x) up l s = cond (fits s l x) (up (gathered s l x)) (shared s l x)
+  under_with None up l s = stayed s l
+  under_with (Some x) up l s = cond (fits s l x) (up (gathered s l x)) (shared s l x)
 
   -- underflowed_node
   abbrev pub underflowed : (State → State) → ℕ → State → State

@@ -1,57 +1,77 @@
-// Healing upward after an item went, as the crate's path.rs has it: the cut, the cycle of three, and the leaf at the bottom.
+// Healing upward after an item went, as the crate's path.rs has it: the cut, the balance with the right sibling, the empty node, and the leaf at the bottom.
 #![tactic(auto)]
 
 ghost use Rattle.std.specs.Prelude.{◌-◌, ◌<◌};
 ghost use Rattle.forest.specs.Sizes.{leaf_cap};
-ghost use Rattle.crit.specs.Asks.{Route, Leaves};
-ghost use Rattle.heal.specs.Steps.{leaf_ops, inner_ops, leaf_front, fronted, taken};
-ghost use Rattle.heal.specs.Cycle.{inner_kind, leaf_kind, stayed, emptied, under, AskEmpty, AskHeal, AskJoin, AskJoinLeaf, AskFront, Joined, Cuts, Mends, AskPair};
+ghost use Rattle.crit.specs.Asks.{Leaves};
 ghost use Rattle.node.specs.declared.Removed.{Removed};
+ghost use Rattle.heal.specs.Steps.{leaf_ops, inner_ops, leaf_front, fronted, taken};
+ghost use Rattle.heal.specs.Cycle;
+ghost use Rattle.heal.specs.Cycle.{inner_kind, leaf_kind, stayed, emptied, under, AskEmpty, AskHeal, AskJoin, AskFront, AskCut, Joined, Cuts, Mends, Settles, AskPair};
+ghost use Rattle.heal.specs.Kinds.{HealLaws};
+ghost use Rattle.heal.specs.KindLaws.{leaf_heals, inner_heals};
 
-use crit::Near;
 use forest::Cursor;
-use node::Removed;
+use node::{InnerNode, Kind, LeafNode, Removed};
 
-// The parent of the node at a level loses that child.
-fn cut_parent(ws: &mut [u32], t: usize, c: Cursor, level: usize) -> Removed
-    requires { Route ws.old t c level × (0 < level) }
-    ensures { Cuts inner_kind ws.old ws.new t c (level - 1) result }
+// A kind of node, as healing sees it.
+trait Heals: Kind {
+    // The operations on such a node's words, its capacity and its minimum.
+    ghost kind: { Cycle.Kind };
+
+    // They are those of the node, and do to items what they should.
+    ghost heals: { HealLaws kind Self.CAPACITY Self.TAG Self.HIDDEN Self.words Self.items Self.Is };
+}
+
+impl Heals for LeafNode {
+    ghost kind = { leaf_kind };
+
+    ghost heals = { leaf_heals };
+}
+
+impl Heals for InnerNode {
+    ghost kind = { inner_kind };
+
+    ghost heals = { inner_heals };
+}
+
+// The node at a level loses the item that the path goes through.
+fn cut<K: Heals>(ws: &mut [u32], t: usize, c: Cursor, level: usize) -> Removed
+    requires { AskCut K.kind ws.old t c level }
+    ensures { Cuts K.kind ws.old ws.new t c level result }
 {
-    let l = level - 1;
-    let n = c.nodes[l];
-    let p = c.places[l] as usize;
+    let n = c.nodes[level];
+    let p = c.places[level] as usize;
     let w = pool::load(ws, t, n);
-    let cut = node::inner_remove(w, p);
+    let cut = node::remove::<K>(w, p);
     let words = cut.words;
     pool::store(ws, t, n, words);
     cut.status
 }
 
-// With no right sibling an inner node stays small; off the end if its last child went.
-fn no_right(ws: &[u32], t: usize, c: Cursor, level: usize) -> Cursor
-    requires { AskHeal inner_kind ws.now t c Removed.Underflow level }
-    ensures { Leaves (λ s. stayed inner_kind s level) ws.now ws.now t c result }
+// With no right sibling a node stays small; off the end if its last item went.
+fn no_right<K: Heals>(ws: &[u32], t: usize, c: Cursor, level: usize) -> Cursor
+    requires { AskHeal K.kind ws.now t c Removed.Underflow level }
+    ensures { Leaves (λ s. stayed K.kind s level) ws.now ws.now t c result }
 {
     let n = c.nodes[level];
-    let p = c.places[level] as usize;
     let w = pool::load(ws, t, n);
-    if p + 15 < w[0] as usize {
+    let left = w[0] - K::TAG;
+    if c.places[level] < left {
         return c;
     }
-    let mut d = c;
-    d.size = 0;
-    d
+    crit::off_end(c)
 }
 
-// An inner node gives all its children to its right sibling, or they share; was it all?
-fn join(ws: &mut [u32], t: usize, c: Cursor, level: usize, key: u32, node: u32) -> bool
-    requires { AskJoin inner_kind ws.old t c level key node }
-    ensures { Joined inner_kind ws.old ws.new t c level result }
+// A node gives all its items to its right sibling, or they share; was it all?
+fn join<K: Heals>(ws: &mut [u32], t: usize, c: Cursor, level: usize, key: u32, node: u32) -> bool
+    requires { AskJoin K.kind ws.old t c level key node }
+    ensures { Joined K.kind ws.old ws.new t c level result }
 {
     let n = c.nodes[level];
     let w = pool::load(ws, t, n);
     let v = pool::load(ws, t, node);
-    let b = node::inner_balance(w, v, key);
+    let b = node::balance::<K>(w, v, key);
     let right = b.right;
     if b.all {
         pool::store(ws, t, node, right);
@@ -65,45 +85,40 @@ fn join(ws: &mut [u32], t: usize, c: Cursor, level: usize, key: u32, node: u32) 
     false
 }
 
-// After a child of the node at a level went: checks its health and rebalances as needed.
-#[cycle(empty_node_heal_level_underflowed_node)]
-fn heal_level(ws: &mut [u32], t: usize, c: Cursor, status: Removed, level: usize) -> Cursor
-    requires { AskHeal inner_kind ws.old t c status level }
-    ensures { Mends inner_kind ws.old ws.new t c result status level }
+// The node at a level has underflowed: it balances with its right sibling; None if it is empty then.
+fn underflowed_node<K: Heals>(ws: &mut [u32], t: usize, c: Cursor, level: usize) -> Option<Cursor>
+    requires { AskHeal K.kind ws.old t c Removed.Underflow level }
+    ensures { Settles (λ vs d. Leaves (under K.kind level) ws.old vs t c d) ws.new t c level result }
 {
-    match status {
-        Removed::Healthy => {
-            return c;
-        }
-        Removed::Rightmost => {
-            return crit::next_node(ws, t, c, level);
-        }
-        Removed::Underflow => {
-            return underflowed_node(ws, t, c, level);
-        }
-        Removed::Empty => {
-            return empty_node(ws, t, c, level);
-        }
+    let Some((key, node)) = crit::right_sibling(ws, t, c, level) else {
+        return Some(no_right::<K>(ws, t, c, level));
+    };
+    if join::<K>(ws, t, c, level, key, node) {
+        return None;
     }
+    Some(c)
 }
 
-// The node at a level has underflowed: it balances with its right sibling.
-#[cycle(empty_node_heal_level_underflowed_node)]
-fn underflowed_node(ws: &mut [u32], t: usize, c: Cursor, level: usize) -> Cursor
-    requires { AskHeal inner_kind ws.old t c Removed.Underflow level }
-    ensures { Leaves (under inner_kind level) ws.old ws.new t c result }
+// After an item of the node at a level went: checks its health and rebalances as needed; None if it is empty then.
+fn heal_level<K: Heals>(
+    ws: &mut [u32],
+    t: usize,
+    c: Cursor,
+    status: Removed,
+    level: usize,
+) -> Option<Cursor>
+    requires { AskHeal K.kind ws.old t c status level }
+    ensures { Settles (λ vs d. Mends K.kind ws.old vs t c d status level) ws.new t c level result }
 {
-    if let Near::Right(key, node) = crit::right_sibling(ws, t, c, level) {
-        if join(ws, t, c, level, key, node) {
-            return empty_node(ws, t, c, level);
-        }
-        return c;
+    match status {
+        Removed::Healthy => Some(c),
+        Removed::Rightmost => Some(crit::next_node(ws, t, c, level)),
+        Removed::Underflow => underflowed_node::<K>(ws, t, c, level),
+        Removed::Empty => None,
     }
-    no_right(ws, t, c, level)
 }
 
 // The node at a level is empty: it is freed, and its parent loses it.
-#[cycle(empty_node_heal_level_underflowed_node)]
 fn empty_node(ws: &mut [u32], t: usize, c: Cursor, level: usize) -> Cursor
     requires { AskEmpty ws.old t c level }
     ensures { Leaves (emptied level) ws.old ws.new t c result }
@@ -111,101 +126,16 @@ fn empty_node(ws: &mut [u32], t: usize, c: Cursor, level: usize) -> Cursor
     let n = c.nodes[level];
     pool::free_node(ws, t, n);
     if level == 0 {
-        let mut d = c;
-        d.size = 0;
-        return d;
+        return crit::off_end(c);
     }
     let near = crit::right_sibling(ws, t, c, level);
-    let status = cut_parent(ws, t, c, level);
-    let d = heal_level(ws, t, c, status, level - 1);
+    let l = level - 1;
+    let status = cut::<InnerNode>(ws, t, c, l);
+    let d = match heal_level::<InnerNode>(ws, t, c, status, l) {
+        Some(d) => d,
+        None => empty_node(ws, t, c, l),
+    };
     crit::through_right(d, level, near)
-}
-
-// With no right sibling a leaf stays small; off the end if its last pair went.
-fn no_right_leaf(ws: &[u32], t: usize, c: Cursor, level: usize) -> Cursor
-    requires { AskHeal leaf_kind ws.now t c Removed.Underflow level }
-    ensures { Leaves (λ s. stayed leaf_kind s level) ws.now ws.now t c result }
-{
-    let n = c.nodes[level];
-    let p = c.places[level] as usize;
-    let w = pool::load(ws, t, n);
-    if p + 32 < w[0] as usize {
-        return c;
-    }
-    let mut d = c;
-    d.size = 0;
-    d
-}
-
-// A leaf gives all its pairs to its right sibling, or they share; was it all?
-fn join_leaf(ws: &mut [u32], t: usize, c: Cursor, level: usize, node: u32) -> bool
-    requires { AskJoinLeaf ws.old t c level node }
-    ensures { Joined leaf_kind ws.old ws.new t c level result }
-{
-    let n = c.nodes[level];
-    let w = pool::load(ws, t, n);
-    let v = pool::load(ws, t, node);
-    let b = node::leaf_balance(w, v);
-    let right = b.right;
-    if b.all {
-        pool::store(ws, t, node, right);
-        crit::hand_crit_key(ws, t, c, level);
-        return true;
-    }
-    let left = b.left;
-    pool::store(ws, t, n, left);
-    pool::store(ws, t, node, right);
-    crit::update_right_crit_key(ws, t, c, level, b.key);
-    false
-}
-
-// The leaf has underflowed: it balances with its right sibling.
-fn underflowed_leaf(ws: &mut [u32], t: usize, c: Cursor, level: usize) -> Cursor
-    requires { AskHeal leaf_kind ws.old t c Removed.Underflow level }
-    ensures { Leaves (under leaf_kind level) ws.old ws.new t c result }
-{
-    if let Near::Right(_, node) = crit::right_sibling(ws, t, c, level) {
-        if join_leaf(ws, t, c, level, node) {
-            return empty_node(ws, t, c, level);
-        }
-        return c;
-    }
-    no_right_leaf(ws, t, c, level)
-}
-
-// The leaf level: after a pair of the leaf went.
-fn heal_leaf(ws: &mut [u32], t: usize, c: Cursor, status: Removed, level: usize) -> Cursor
-    requires { AskHeal leaf_kind ws.old t c status level }
-    ensures { Mends leaf_kind ws.old ws.new t c result status level }
-{
-    match status {
-        Removed::Healthy => {
-            return c;
-        }
-        Removed::Rightmost => {
-            return crit::next_node(ws, t, c, level);
-        }
-        Removed::Underflow => {
-            return underflowed_leaf(ws, t, c, level);
-        }
-        Removed::Empty => {
-            return empty_node(ws, t, c, level);
-        }
-    }
-}
-
-// The leaf loses the pair that the cursor is on.
-fn cut_leaf(ws: &mut [u32], t: usize, c: Cursor, level: usize) -> Removed
-    requires { AskPair ws.old t c level }
-    ensures { Cuts leaf_kind ws.old ws.new t c level result }
-{
-    let n = c.nodes[level];
-    let p = c.places[level] as usize;
-    let w = pool::load(ws, t, n);
-    let cut = node::leaf_remove(w, p);
-    let words = cut.words;
-    pool::store(ws, t, n, words);
-    cut.status
 }
 
 // If the front pair of the leaf went and another is the first, the key before the leaf becomes that one's.
@@ -229,7 +159,10 @@ pub fn remove_pair(ws: &mut [u32], t: usize, c: Cursor, level: usize) -> Cursor
     requires { AskPair ws.old t c level }
     ensures { Leaves (taken level) ws.old ws.new t c result }
 {
-    let status = cut_leaf(ws, t, c, level);
+    let status = cut::<LeafNode>(ws, t, c, level);
     update_front(ws, t, c, level);
-    heal_leaf(ws, t, c, status, level)
+    match heal_level::<LeafNode>(ws, t, c, status, level) {
+        Some(d) => d,
+        None => empty_node(ws, t, c, level),
+    }
 }

@@ -9,19 +9,18 @@ use lib.Seq.{paste, take_at, drop_at, take_all, length-take-le}
 use Rattle.forest.specs.Lists.{insert_at, remove_at, pad}
 use Rattle.forest.specs.Pairs.{Item}
 use Rattle.forest.specs.Rows.{front}
-use Rattle.forest.specs.Pools.{leaf_words, inner_words}
 use Rattle.forest.proofs.CountLaws.{length-pad, get_or-pad}
 use Rattle.forest.proofs.ListLaws.{length-insert_at, length-remove_at, map-append, map-take, map-drop, map-insert_at, map-remove_at}
-use Rattle.node.specs.Nodes.{tabulate, leaf_pairs, inner_items, inner_item, Leaf, Inner, rekey_at, items_of, with_item, less_item, with_key, both_items, part_items, half_items, packed}
+use Rattle.node.specs.Nodes.{items_of, with_item, less_item, both_items, part_items, half_items}
 use Rattle.node.specs.declared.items.Items.{Items}
 use Rattle.node.specs.declared.items.Halves.{Halves}
-use Rattle.node.proofs.Pads.{pad-take, pad-drop, pad-more, inserted-pad, removed-pad, part_pad, append-pad}
-use Rattle.node.proofs.Words.{keys_of, links_of, length_pairs, length-items}
+use Rattle.node.proofs.Pads.{pad-take, pad-more, inserted-pad, removed-pad, part_pad, append-pad}
+use Rattle.node.proofs.Words.{keys_of, links_of}
 
-abbrev key_of : Item → ℕ
+abbrev pub key_of : Item → ℕ
 key_of x = x.0
 
-abbrev link_of : Item → ℕ
+abbrev pub link_of : Item → ℕ
 link_of x = x.1
 
 pub items_eq : {c d : ℕ} {k m l n : List ℕ} → c ≡ d → k ≡ m → l ≡ n →
@@ -62,13 +61,6 @@ append-items a b xs ys d e h =
     ap (λ (i : Items). both_items i b) d ∙ ap (both_items (items_of xs)) e
     ∙ items_eq (sym (length-append xs ys)) (append_section key_of xs ys h) (append_section link_of xs ys h)
 
-pub rekey-items : (s : Items) (k : ℕ) (xs : List Item) → s ≡ items_of xs → 1 ≤ length xs → with_key s k ≡ items_of (rekey_at 0 k xs)
-rekey-items s k xs e h = ap (λ (i : Items). with_key i k) e ∙ first xs h
-  where
-    first : (xs : List Item) → 1 ≤ length xs → with_key (items_of xs) k ≡ items_of (rekey_at 0 k xs)
-    first [] h = absurd (omega arith)
-    first (x ∷ xs) h = refl
-
 -- a part of one section
 part_section : (f : Item → ℕ) (from n : ℕ) (xs : List Item) → from + n ≤ 16 → from + n ≤ length xs → paste (pad 16 []) 0 (drop from (pad 16 (map f xs))) n ≡ pad 16 (map f (take n (drop from xs)))
 part_section f from n xs h l =
@@ -102,64 +94,23 @@ half_items_lem s l us e few h =
 -- Words to items
 
 -- the sections of a node's words, copied out
-links_out : (a : ℕ) (ks ls : List ℕ) → length ls ≤ 8 → paste (pad 16 []) 0 (drop 8 (a ∷ (pad 7 ks ++ pad 8 ls))) 8 ≡ pad 16 ls
+pub links_out : (a : ℕ) (ks ls : List ℕ) → length ls ≤ 8 → paste (pad 16 []) 0 (drop 8 (a ∷ (pad 7 ks ++ pad 8 ls))) 8 ≡ pad 16 ls
 links_out a ks ls h = rw (drop_at (pad 7 ks) (pad 8 ls) 7 (length-pad 7 ks), pad-take 8 8 ls (omega arith)) (pad-more 8 16 ls h (omega arith))
 
-keys_out : (a : ℕ) (ks ls : List ℕ) → length ks ≤ 7 → paste (pad 16 []) 0 (drop 1 (a ∷ (pad 7 ks ++ pad 8 ls))) 7 ≡ pad 16 ks
-keys_out a ks ls h = rw (take_at (pad 7 ks) (pad 8 ls) 7 (length-pad 7 ks)) (pad-more 7 16 ks h (omega arith))
+pub keys_out : (a k : ℕ) (ks ls : List ℕ) → length ks ≤ 7 → paste (k ∷ pad 15 []) 0 (drop 1 (a ∷ (pad 7 ks ++ pad 8 ls))) 7 ≡ pad 16 ks
+keys_out a k ks ls h = rw (take_at (pad 7 ks) (pad 8 ls) 7 (length-pad 7 ks)) (pad-more 7 16 ks h (omega arith))
 
--- one place further on
-keys_on : (a : ℕ) (ks ls : List ℕ) → length ks ≤ 7 → paste (pad 16 []) 1 (drop 1 (a ∷ (pad 7 ks ++ pad 8 ls))) 7 ≡ pad 16 (0 ∷ ks)
-keys_on a ks ls h = rw (take_at (pad 7 ks) (pad 8 ls) 7 (length-pad 7 ks)) (ap (0 ∷◌) (pad-more 7 15 ks h (omega arith)))
-
-pub leaf_unpack : (w : List ℕ) (n : ℕ) (ks ls : List ℕ) → Leaf w → n ≡ get_or w 0 0 - 32 → ks ≡ paste (pad 16 []) 0 (drop 1 w) 7 → ls ≡ paste (pad 16 []) 0 (drop 8 w) 8 →
-    record { count = n; keys = ks; links = ls } ≡ items_of (leaf_pairs w)
-leaf_unpack w n ks ls leaf c p q =
-    let xs : List Item = leaf_pairs w in
-    let few : length (leaf_pairs w) ≤ 7 = omega (arith, length_pairs w, leaf.few) in
-    items_eq (c ∙ sym (length_pairs w))
-    (p ∙ ap (λ (v : List ℕ). paste (pad 16 []) 0 (drop 1 v) 7) (sym leaf.same) ∙ keys_out (32 + length xs) (keys_of xs) (links_of xs) (rw (length-map xs key_of) few))
-    (q ∙ ap (λ (v : List ℕ). paste (pad 16 []) 0 (drop 8 v) 8) (sym leaf.same) ∙ links_out (32 + length xs) (keys_of xs) (links_of xs) (rw (length-map xs link_of) (omega arith)))
-
-pub inner_unpack : (w : List ℕ) (n : ℕ) (ks ls : List ℕ) → Inner w → n ≡ get_or w 0 0 - 15 → ks ≡ paste (pad 16 []) 1 (drop 1 w) 7 → ls ≡ paste (pad 16 []) 0 (drop 8 w) 8 →
-    record { count = n; keys = ks; links = ls } ≡ items_of (inner_items w)
-inner_unpack w n ks ls node c p q =
-    let xs : List Item = inner_items w in
-    let long : length (inner_items w) ≡ get_or w 0 0 - 15 = length-items w in
-    let few : length (inner_items w) ≤ 8 = omega (arith, node.few) in
-    let some : 1 ≤ get_or w 0 0 - 15 = omega (arith, node.some) in
-    items_eq (c ∙ sym long)
-    (p ∙ ap (λ (v : List ℕ). paste (pad 16 []) 1 (drop 1 v) 7) (sym node.same)
-    ∙ keys_on (16 + (length xs - 1)) (keys_of (drop 1 xs)) (links_of xs) (rw (length-map (drop 1 xs) key_of) (simp length-drop (omega arith)))
-    ∙ ap (pad 16) (zeroed (get_or w 0 0 - 15) some))
-    (q ∙ ap (λ (v : List ℕ). paste (pad 16 []) 0 (drop 8 v) 8) (sym node.same) ∙ links_out (16 + (length xs - 1)) (keys_of (drop 1 xs)) (links_of xs) (rw (length-map xs link_of) few))
-  where
-    zeroed : (n : ℕ) → 1 ≤ n → 0 ∷ keys_of (drop 1 (tabulate (inner_item w) 0 n)) ≡ keys_of (tabulate (inner_item w) 0 n)
-    zeroed zero h = absurd (omega arith)
-    zeroed (suc n) h = refl
+-- one place further on, behind a first key
+pub keys_on : (a k : ℕ) (ks ls : List ℕ) → length ks ≤ 7 → paste (k ∷ pad 15 []) 1 (drop 1 (a ∷ (pad 7 ks ++ pad 8 ls))) 7 ≡ pad 16 (k ∷ ks)
+keys_on a k ks ls h = rw (take_at (pad 7 ks) (pad 8 ls) 7 (length-pad 7 ks)) (ap (k ∷◌) (pad-more 7 15 ks h (omega arith)))
 
 -- Items to words
 
 -- two sections of sixteen words, copied behind word a
-pack : (a i : ℕ) (ks ls : List ℕ) → i + 7 ≤ length ks → paste (paste (a ∷ pad 15 []) 1 (drop i ks) 7) 8 ls 8 ≡ a ∷ (take 7 (drop i ks) ++ take 8 ls)
+pub pack : (a i : ℕ) (ks ls : List ℕ) → i + 7 ≤ length ks → paste (paste (a ∷ pad 15 []) 1 (drop i ks) 7) 8 ls 8 ≡ a ∷ (take 7 (drop i ks) ++ take 8 ls)
 pack a i ks ls h =
     let X : List ℕ = take 7 (drop i ks) in
     let k : length X ≡ 7 = length-take-le 7 (drop i ks) (simp length-drop (omega arith)) in
     let p : take 7 (X ++ pad 8 []) ≡ X = take_at X (pad 8 []) 7 k in
     let q : drop 15 (X ++ pad 8 []) ≡ [] = drop_of_length-le (X ++ pad 8 []) {i = 15} (omega (arith, length-append X (pad 8 []))) in
     ap (λ (r : List ℕ). a ∷ ((r ++ take 8 ls) ++ drop 15 (X ++ pad 8 []))) p ∙ ap (λ (r : List ℕ). a ∷ ((X ++ take 8 ls) ++ r)) q ∙ ap (a ∷◌) (append-nil (X ++ take 8 ls))
-
--- packed, the items of a list are its words
-abbrev pub Packs : (List Item → List ℕ) → ℕ → ℕ → Type 0
-Packs words a i = (s : Items) (xs : List Item) → s ≡ items_of xs → 1 ≤ length xs → packed a i s ≡ words xs
-
-pub leaf_packs : Packs leaf_words 32 0
-leaf_packs s xs e h =
-    ap (packed 32 0) e ∙ pack (32 + length xs) 0 (pad 16 (keys_of xs)) (pad 16 (links_of xs)) (omega (arith, length-pad 16 (keys_of xs)))
-    ∙ rw (pad-take 7 16 (keys_of xs) (omega arith), pad-take 8 16 (links_of xs) (omega arith))
-
-pub inner_packs : Packs inner_words 15 1
-inner_packs s xs e h =
-    let t : 15 + length xs ≡ 16 + (length xs - 1) = omega arith in
-    ap (packed 15 1) e ∙ pack (15 + length xs) 1 (pad 16 (keys_of xs)) (pad 16 (links_of xs)) (omega (arith, length-pad 16 (keys_of xs)))
-    ∙ rw (t, pad-drop 1 16 (keys_of xs), pad-take 7 15 (drop 1 (keys_of xs)) (omega arith), pad-take 8 16 (links_of xs) (omega arith), map-drop key_of 1 xs)

@@ -15,7 +15,7 @@ use Rattle.forest.proofs.ListLaws.{is, isnt, test, length-insert_at, length-remo
 use Rattle.node.specs.Nodes.{leaf_pairs, inner_items, Leaf, Inner, leaf_cut, inner_cut, split_of, keep, balance_of, rekey_at}
 use Rattle.node.specs.declared.Balanced.{Balanced}
 use Rattle.node.proofs.Words.{leaf_is, inner_is, length_pairs, length-items, leaf_pairs_lem, inner_items_lem, inner_first, take-first, drop-first, cut_first, insert-first, rekey_back, rekey_at_left, length-rekey_at}
-use Rattle.node.proofs.Steps.{leaf_cut_none, leaf_cut_some, inner_cut_none, inner_cut_some, split_eq, balance_eq}
+use Rattle.node.proofs.Steps.{cut_none, cut_some, split_eq, balance_eq}
 
 -- Insert
 
@@ -45,17 +45,17 @@ inner_split xs l i x h m s =
 -- Remove
 
 pub leaf_cut_lem : (xs : List Item) (o : ℕ) → 2 ≤ length xs → length xs ≤ 7 → leaf_cut (leaf_words xs) o ≡ leaf_words (remove_at o xs)
-leaf_cut_lem xs o h l = sym (leaf_cut_some (leaf_words xs) o (λ e. omega arith)) ∙ ap (λ (u : List Item). leaf_words (remove_at o u)) (leaf_pairs_lem xs l)
+leaf_cut_lem xs o h l = sym (cut_some 32 leaf_words leaf_pairs (leaf_words xs) o (λ e. omega arith)) ∙ ap (λ (u : List Item). leaf_words (remove_at o u)) (leaf_pairs_lem xs l)
 
 pub leaf_cut_last : (xs : List Item) (o : ℕ) → length xs ≡ 1 → leaf_cut (leaf_words xs) o ≡ pad 16 []
-leaf_cut_last xs o h = sym (leaf_cut_none (leaf_words xs) o (omega arith))
+leaf_cut_last xs o h = sym (cut_none 32 leaf_words leaf_pairs (leaf_words xs) o (omega arith))
 
 pub inner_cut_lem : (xs : List Item) (o : ℕ) → 2 ≤ length xs → length xs ≤ 8 → inner_cut (inner_words xs) o ≡ inner_words (remove_at o xs)
 inner_cut_lem xs o h l =
-    sym (inner_cut_some (inner_words xs) o (λ e. omega arith)) ∙ ap (λ (u : List Item). inner_words (remove_at o u)) (inner_items_lem xs (omega arith) l) ∙ cut_first 0 o xs
+    sym (cut_some 15 inner_words inner_items (inner_words xs) o (λ e. omega arith)) ∙ ap (λ (u : List Item). inner_words (remove_at o u)) (inner_items_lem xs (omega arith) l) ∙ cut_first 0 o xs
 
 pub inner_cut_last : (xs : List Item) (o : ℕ) → length xs ≡ 1 → inner_cut (inner_words xs) o ≡ pad 16 []
-inner_cut_last xs o h = sym (inner_cut_none (inner_words xs) o (omega arith))
+inner_cut_last xs o h = sym (cut_none 15 inner_words inner_items (inner_words xs) o (omega arith))
 
 -- Balance
 
@@ -135,5 +135,5 @@ remove_inner w r o e node h l =
     let n : length (inner_items w) ≡ get_or w 0 0 - 15 = length-items w in
     let m : suc (length (remove_at o (inner_items w))) ≡ length (inner_items w) = length-remove_at o (inner_items w) (omega arith) in
     let few : get_or w 0 0 ≤ 23 = node.few in
-    subst⁻¹ (λ (v : List ℕ). Inner v × (suc (get_or v 0 0) ≡ get_or w 0 0)) (e ∙ sym (inner_cut_some w o (λ e. omega arith)))
+    subst⁻¹ (λ (v : List ℕ). Inner v × (suc (get_or v 0 0) ≡ get_or w 0 0)) (e ∙ sym (cut_some 15 inner_words inner_items w o (λ e. omega arith)))
     (inner_is (remove_at o (inner_items w)) (omega arith) (omega arith), omega arith)

@@ -3,7 +3,7 @@ use mathlib.Core.Path.{◌≡◌, ap, ◌∙◌}
 use mathlib.Core.Logic.{◌≢◌}
 use mathlib.Core.List.{List, []}
 use mathlib.Core.Bool.{true, false}
-use Prim.Native.Nat.{ℕ, ◌+◌, ◌-◌, ◌*◌, ◌/◌, ◌≤◌, ◌<◌}
+use Prim.Native.Nat.{ℕ, suc, ◌+◌, ◌-◌, ◌*◌, ◌/◌, ◌≤◌, ◌<◌}
 use native.Mathlib.Numerals.{add-one}
 use native.Mathlib.Omega.{arith}
 use lib.ListN.{length, take, drop, get_or, length-drop}
@@ -12,14 +12,15 @@ use borrow.Author.Tests.{le-leb, lt-leb, lt-ltb, le-ltb, eq-eqb, ne_eqb}
 use Rattle.forest.specs.Lists.{remove_at, pad}
 use Rattle.forest.specs.Pairs.{Item}
 use Rattle.forest.specs.Rows.{front, keeps}
-use Rattle.forest.specs.Pools.{leaf_words, inner_words}
-use Rattle.node.specs.Nodes.{leaf_pairs, inner_items, leaf_cut, inner_cut, status_of, split_of, keep, balance_of, items_of, half_items, packed}
+use Rattle.node.specs.Nodes.{cut_of, status_of, split_of, keep, balance_of, items_of, half_items, packed}
+use Rattle.node.specs.Kinds.{KindLaws}
 use Rattle.node.specs.declared.items.Items.{Items}
 use Rattle.node.specs.declared.items.Halves.{Halves}
 use Rattle.node.specs.declared.SplitOff.{SplitOff}
 use Rattle.node.specs.declared.Balanced.{Balanced}
 use Rattle.node.specs.declared.Removed.TheVariants.{Healthy, Rightmost, Underflow, Empty}
-use Rattle.node.proofs.ItemLaws.{halves_of, half_items_lem, Packs}
+use Rattle.node.proofs.ItemLaws.{halves_of, half_items_lem}
+use Rattle.node.proofs.KindLaws.{packs}
 
 pub keeps_left : (c p : ℕ) → p ≤ c / 2 → c / 2 + 1 ≡ keeps c p
 unfolding keeps
@@ -47,21 +48,14 @@ module _ (c place left : ℕ) where
   empty h e = simp (lt-leb c (2 * left) h, le-ltb 0 left e)
 
 -- a node that lost its last item, and one that has others
-pub leaf_cut_none : (w : List ℕ) (o : ℕ) → get_or w 0 0 ≡ 33 → pad 16 [] ≡ leaf_cut w o
-unfolding leaf_cut
-leaf_cut_none w o e = simp (eq-eqb (get_or w 0 0) 33 e)
+module _ (t : ℕ) (words : List Item → List ℕ) (items : List ℕ → List Item) (w : List ℕ) (o : ℕ) where
+  pub cut_none : get_or w 0 0 ≡ suc t → pad 16 [] ≡ cut_of t words items w o
+  unfolding cut_of
+  cut_none e = simp (eq-eqb (get_or w 0 0) (suc t) e)
 
-pub leaf_cut_some : (w : List ℕ) (o : ℕ) → get_or w 0 0 ≢ 33 → leaf_words (remove_at o (leaf_pairs w)) ≡ leaf_cut w o
-unfolding leaf_cut
-leaf_cut_some w o e = simp (ne_eqb (get_or w 0 0) 33 e)
-
-pub inner_cut_none : (w : List ℕ) (o : ℕ) → get_or w 0 0 ≡ 16 → pad 16 [] ≡ inner_cut w o
-unfolding inner_cut
-inner_cut_none w o e = simp (eq-eqb (get_or w 0 0) 16 e)
-
-pub inner_cut_some : (w : List ℕ) (o : ℕ) → get_or w 0 0 ≢ 16 → inner_words (remove_at o (inner_items w)) ≡ inner_cut w o
-unfolding inner_cut
-inner_cut_some w o e = simp (ne_eqb (get_or w 0 0) 16 e)
+  pub cut_some : get_or w 0 0 ≢ suc t → words (remove_at o (items w)) ≡ cut_of t words items w o
+  unfolding cut_of
+  cut_some e = simp (ne_eqb (get_or w 0 0) (suc t) e)
 
 pub split_eq : {a b d e : List ℕ} {k m : ℕ} → a ≡ d → b ≡ e → k ≡ m → ◌≡◌ {A = SplitOff} (record { left = a; right = b; key = k }) (record { left = d; right = e; key = m })
 split_eq p q r = cc
@@ -70,15 +64,15 @@ pub balance_eq : {a b d e : List ℕ} {k m : ℕ} → a ≡ d → b ≡ e → k 
     ◌≡◌ {A = Balanced} (record { all = false; left = a; right = b; key = k }) (record { all = false; left = d; right = e; key = m })
 balance_eq p q r = cc
 
--- items us, packed as `words`
-module _ (words : List Item → List ℕ) (a i : ℕ) (packs : Packs words a i) (us : List Item) (s : Items) (held : s ≡ items_of us) where
+-- items us, packed as a kind of node
+module _ {c a i : ℕ} {words : List Item → List ℕ} {items : List ℕ → List Item} {Is : List ℕ → Type 0} (laws : KindLaws c a i words items Is) (us : List Item) (s : Items) (held : s ≡ items_of us) where
   -- both halves
   halves_packed : (l : ℕ) (h : Halves) (left right : List ℕ) → h ≡ half_items s l → length us ≤ 16 → 1 ≤ l → l < length us → left ≡ packed a i h.left → right ≡ packed a i h.right →
       (left ≡ words (take l us)) × (right ≡ words (drop l us)) × (h.key ≡ front (drop l us))
   halves_packed l h left right e few some more p q =
       let d : h ≡ halves_of us l = e ∙ half_items_lem s l us held few more in (
-        p ∙ packs h.left (take l us) (ap (λ (o : Halves). o.left) d) (rw (length-take-le l us (omega arith)) some),
-        q ∙ packs h.right (drop l us) (ap (λ (o : Halves). o.right) d) (simp length-drop (omega arith)),
+        p ∙ packs laws h.left (take l us) (ap (λ (o : Halves). o.left) d) (rw (length-take-le l us (omega arith)) some),
+        q ∙ packs laws h.right (drop l us) (ap (λ (o : Halves). o.right) d) (simp length-drop (omega arith)),
         ap (λ (o : Halves). o.key) d,
       )
 
@@ -88,17 +82,16 @@ module _ (words : List Item → List ℕ) (a i : ℕ) (packs : Packs words a i) 
       let r = halves_packed l h left right d few some more p q in
       split_eq r.0 r.1 r.2 ∙ ap (λ (j : ℕ). split_of words j us) e
 
-  module _ (c : ℕ) where
-    pub balance_all : (w : List ℕ) → 1 ≤ length us → length us ≤ c → w ≡ packed a i s → record { all = true; left = pad 16 []; right = w; key = 0 } ≡ balance_of words c us
-    unfolding balance_of
-    balance_all w some h p =
-        simp (le-leb (length us) c h)
-        (ap (λ (r : List ℕ). record { all = true; left = pad 16 []; right = r; key = 0 }) (p ∙ packs s us held some))
+  pub balance_all : (w : List ℕ) → 1 ≤ length us → length us ≤ c → w ≡ packed a i s → record { all = true; left = pad 16 []; right = w; key = 0 } ≡ balance_of words c us
+  unfolding balance_of
+  balance_all w some h p =
+      simp (le-leb (length us) c h)
+      (ap (λ (r : List ℕ). record { all = true; left = pad 16 []; right = r; key = 0 }) (p ∙ packs laws s us held some))
 
-    pub balance_share : (h : Halves) (left right : List ℕ) → h ≡ half_items s (s.count - s.count / 2) → length us ≤ 16 → 1 ≤ c → c < length us → left ≡ packed a i h.left → right ≡ packed a i h.right →
-        record { all = false; left = left; right = right; key = h.key } ≡ balance_of words c us
-    unfolding balance_of
-    balance_share h left right d few some more p q =
-        let e : s.count - s.count / 2 ≡ keep us = ap (λ (o : Items). o.count - o.count / 2) held in
-        let r = halves_packed (keep us) h left right (d ∙ ap (half_items s) e) few (omega arith) (omega arith) p q in
-        simp (lt-leb (length us) c more) (balance_eq r.0 r.1 r.2)
+  pub balance_share : (h : Halves) (left right : List ℕ) → h ≡ half_items s (s.count - s.count / 2) → length us ≤ 16 → 1 ≤ c → c < length us → left ≡ packed a i h.left → right ≡ packed a i h.right →
+      record { all = false; left = left; right = right; key = h.key } ≡ balance_of words c us
+  unfolding balance_of
+  balance_share h left right d few some more p q =
+      let e : s.count - s.count / 2 ≡ keep us = ap (λ (o : Items). o.count - o.count / 2) held in
+      let r = halves_packed (keep us) h left right (d ∙ ap (half_items s) e) few (omega arith) (omega arith) p q in
+      simp (lt-leb (length us) c more) (balance_eq r.0 r.1 r.2)

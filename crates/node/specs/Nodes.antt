@@ -1,5 +1,5 @@
 -- DEFINITIONS. One node: its sixteen words read as items, and what insert, cut, remove and balance make of them, over the kind and the capacity c
-use Rattle.std.specs.Prelude.{◌≡◌, List, [], ◌∷◌, map, true, false, cond, ℕ, zero, suc, ◌+◌, ◌-◌, ◌*◌, ◌/◌, ◌≤◌, length, take, drop, get_or, set, ltb, leb, eqb}
+use Rattle.std.specs.Prelude.{◌≡◌, List, [], ◌∷◌, map, true, false, cond, ℕ, zero, suc, ◌+◌, ◌-◌, ◌*◌, ◌/◌, ◌≤◌, length, take, drop, get_or, ltb, leb, eqb}
 use Rattle.std.proofs.Math.Seq.{paste}
 use Rattle.forest.specs.Lists.{remove_at, pad}
 use Rattle.forest.specs.Pairs.{Item}
@@ -53,19 +53,28 @@ rekey_at i k [] = []
 rekey_at zero k (x ∷ xs) = (k, x.1) ∷ xs
 rekey_at (suc i) k (x ∷ xs) = x ∷ rekey_at i k xs
 
+-- items with k as the key of the first, where i first keys are stored nowhere
+abbrev pub keyed : ℕ → ℕ → List Item → List Item
+keyed zero k xs = xs
+keyed (suc i) k xs = rekey_at 0 k xs
+
 -- how a node of capacity c stands that lost its item at a place and has some left
 unfoldable pub status_of : ℕ → ℕ → ℕ → Removed
 status_of c place left =
     cond (leb c (2 * left)) (cond (eqb place left) Rightmost Healthy)
     (cond (ltb 0 left) Underflow Empty)
 
--- the words of a leaf that lost its item at place o: sixteen zeros if it was the last one
-unfoldable pub leaf_cut : List ℕ → ℕ → List ℕ
-leaf_cut w o = cond (eqb (get_or w 0 0) 33) (pad 16 []) (leaf_words (remove_at o (leaf_pairs w)))
+-- the words of a node that lost its item at place o: sixteen zeros if it was the last one; t is what the first word adds to the number of items
+unfoldable pub cut_of : ℕ → (List Item → List ℕ) → (List ℕ → List Item) → List ℕ → ℕ → List ℕ
+cut_of t words items w o = cond (eqb (get_or w 0 0) (suc t)) (pad 16 []) (words (remove_at o (items w)))
+
+-- those of a leaf
+abbrev pub leaf_cut : List ℕ → ℕ → List ℕ
+leaf_cut = cut_of 32 leaf_words leaf_pairs
 
 -- and those of an inner node
-unfoldable pub inner_cut : List ℕ → ℕ → List ℕ
-inner_cut w o = cond (eqb (get_or w 0 0) 16) (pad 16 []) (inner_words (remove_at o (inner_items w)))
+abbrev pub inner_cut : List ℕ → ℕ → List ℕ
+inner_cut = cut_of 15 inner_words inner_items
 
 -- items cut after the first l: both halves, and the first key on the right
 abbrev pub split_of : (List Item → List ℕ) → ℕ → List Item → SplitOff
@@ -94,10 +103,6 @@ with_item s i k l = record { count = s.count + 1; keys = inserted s.keys i k; li
 abbrev pub less_item : Items → ℕ → Items
 less_item s i = record { count = s.count - 1; keys = pad 16 (remove_at i s.keys); links = pad 16 (remove_at i s.links) }
 
--- the first key becomes k
-abbrev pub with_key : Items → ℕ → Items
-with_key s k = record { count = s.count; keys = set s.keys 0 k; links = s.links }
-
 -- those of a, and behind them those of b
 abbrev pub both_items : Items → Items → Items
 both_items a b = record {
@@ -117,3 +122,7 @@ half_items s l = record { left = part_items s 0 l; right = part_items s l (s.cou
 -- a node's words: the count on top of a, seven keys from place i on, eight links
 abbrev pub packed : ℕ → ℕ → Items → List ℕ
 packed a i s = paste (paste ((a + s.count) ∷ pad 15 []) 1 (drop i s.keys) 7) 8 s.links 8
+
+-- a node's items: the number without a, seven keys to place i on with k in place 0 before, eight links
+abbrev pub unpacked : ℕ → ℕ → ℕ → List ℕ → Items
+unpacked a i k w = record { count = get_or w 0 0 - a; keys = paste (k ∷ pad 15 []) i (drop 1 w) 7; links = paste (pad 16 []) 0 (drop 8 w) 8 }

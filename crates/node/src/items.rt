@@ -2,7 +2,7 @@
 ghost use Rattle.std.specs.Prelude.{◌≡◌, ◌+◌, ◌≤◌, ◌<◌, drop, get_or};
 ghost use Rattle.std.proofs.Math.Seq.{paste};
 ghost use Rattle.forest.specs.Lists.{remove_at, pad};
-ghost use Rattle.node.specs.Nodes.{with_item, less_item, with_key, both_items, part_items, half_items};
+ghost use Rattle.node.specs.Nodes.{with_item, less_item, both_items, part_items, half_items};
 
 // The items of one node, or of two joined: keys, and values or children. Past the last all is 0.
 #[derive(Clone, Copy)]
@@ -70,20 +70,6 @@ pub fn remove(items: Items, at: usize) -> Items
     let links = without(all_links, at);
     Items {
         count: items.count - 1,
-        keys,
-        links,
-    }
-}
-
-// The first item's key becomes `key`.
-pub fn rekey(items: Items, key: u32) -> Items
-    ensures { result ≡ with_key items key }
-{
-    let mut keys = items.keys;
-    let links = items.links;
-    keys[0] = key;
-    Items {
-        count: items.count,
         keys,
         links,
     }

@@ -1,15 +1,17 @@
 // One node of a tree, as its sixteen words by value.
 #![tactic(auto)]
 
-ghost use Rattle.std.specs.Prelude.{◌≡◌, [], ◌∷◌, ◌++◌, suc, ◌+◌, ◌-◌, ◌≤◌, ◌<◌, get_or};
+ghost use Rattle.std.specs.Prelude.{◌≡◌, List, [], ◌∷◌, ◌++◌, ℕ, suc, ◌+◌, ◌-◌, ◌≤◌, ◌<◌, get_or};
 ghost use Rattle.forest.specs.Lists.{insert_at};
+ghost use Rattle.forest.specs.Pairs.{Item};
 ghost use Rattle.forest.specs.Rows.{keeps};
 ghost use Rattle.forest.specs.Pools.{leaf_words, inner_words};
-ghost use Rattle.node.specs.Nodes.{Leaf, Inner, leaf_pairs, inner_items, rekey_at, status_of, leaf_cut, inner_cut, split_of, balance_of, items_of, packed};
+ghost use Rattle.node.specs.Nodes.{Leaf, Inner, leaf_pairs, inner_items, keyed, status_of, cut_of, split_of, balance_of, items_of, packed};
+ghost use Rattle.node.specs.Kinds.{KindLaws, leaf_laws, inner_laws};
 
 pub mod items;
 
-use items::{Items, append, copied, cut_at, insert, rekey, remove};
+use items::{Items, append, copied, cut_at, insert};
 
 // How a node stands that lost an entry.
 #[derive(Clone, Copy)]
@@ -48,6 +50,86 @@ pub struct Balanced {
     pub key: u32,
 }
 
+// A kind of node: leaves, which hold pairs, or inner nodes, which hold children with keys between them.
+pub trait Kind {
+    // How many items a node has room for.
+    const CAPACITY: usize;
+
+    // What the first word adds to the number of items.
+    const TAG: u32;
+
+    // How many of the first keys no node stores.
+    const HIDDEN: usize;
+
+    ghost CAPACITY: { ℕ };
+
+    ghost TAG: { ℕ };
+
+    ghost HIDDEN: { ℕ };
+
+    // The words of items.
+    ghost words: { List Item → List ℕ };
+
+    // The items of words.
+    ghost items: { List ℕ → List Item };
+
+    // The words are those of such a node.
+    ghost Is: { List ℕ → Type 0 };
+
+    // What each kind keeps.
+    ghost laws: { KindLaws CAPACITY TAG HIDDEN words items Is };
+}
+
+// Leaves.
+pub struct LeafNode;
+
+impl Kind for LeafNode {
+    const CAPACITY: usize = 7;
+
+    const TAG: u32 = 32;
+
+    const HIDDEN: usize = 0;
+
+    ghost CAPACITY = { 7 };
+
+    ghost TAG = { 32 };
+
+    ghost HIDDEN = { 0 };
+
+    ghost words = { leaf_words };
+
+    ghost items = { leaf_pairs };
+
+    ghost Is = { Leaf };
+
+    ghost laws = { leaf_laws };
+}
+
+// Inner nodes.
+pub struct InnerNode;
+
+impl Kind for InnerNode {
+    const CAPACITY: usize = 8;
+
+    const TAG: u32 = 15;
+
+    const HIDDEN: usize = 1;
+
+    ghost CAPACITY = { 8 };
+
+    ghost TAG = { 15 };
+
+    ghost HIDDEN = { 1 };
+
+    ghost words = { inner_words };
+
+    ghost items = { inner_items };
+
+    ghost Is = { Inner };
+
+    ghost laws = { inner_laws };
+}
+
 // A word as a place or a count.
 fn wide(x: u32) -> usize
     ensures { result ≡ x }
@@ -78,53 +160,30 @@ pub fn leaf(key: u32, value: u32) -> [u32; 16]
     w
 }
 
-// The pairs of a leaf.
-fn leaf_items(w: [u32; 16]) -> Items
-    requires { Leaf w }
-    ensures { (result.count ≡ get_or w 0 0 - 32) × (result ≡ items_of (leaf_pairs w)) }
+// The items of a node; where it stores no first key, that is `first`.
+fn unpack<K: Kind>(w: [u32; 16], first: u32) -> Items
+    requires { K.Is w }
+    ensures { (result.count ≡ get_or w 0 0 - K.TAG) × (result ≡ items_of (keyed K.HIDDEN first (K.items w))) }
 {
-    let count = wide(w[0] - 32);
-    let keys = copied([0u32; 16], 0, w, 1, 7);
+    let count = wide(w[0] - K::TAG);
+    let mut zeros = [0u32; 16];
+    zeros[0] = first;
+    let keys = copied(zeros, K::HIDDEN, w, 1, 7);
     let links = copied([0u32; 16], 0, w, 8, 8);
     Items { count, keys, links }
 }
 
-// The items of an inner node, its first key 0.
-fn inner_items(w: [u32; 16]) -> Items
-    requires { Inner w }
-    ensures { (result.count ≡ get_or w 0 0 - 15) × (result ≡ items_of (inner_items w)) }
-{
-    let count = wide(w[0] - 15);
-    let keys = copied([0u32; 16], 1, w, 1, 7);
-    let links = copied([0u32; 16], 0, w, 8, 8);
-    Items { count, keys, links }
-}
-
-// The words of a leaf.
-fn leaf_words(items: Items) -> [u32; 16]
-    requires { items.count ≤ 7 }
-    ensures { result ≡ packed 32 0 items }
+// The words of a node.
+fn pack<K: Kind>(items: Items) -> [u32; 16]
+    requires { (1 ≤ items.count) × (items.count ≤ K.CAPACITY) }
+    ensures { result ≡ packed K.TAG K.HIDDEN items }
 {
     let count = items.count;
     let mut w = [0u32; 16];
-    w[0] = 32 + (count as u32);
+    w[0] = K::TAG + (count as u32);
     let keys = items.keys;
     let links = items.links;
-    let k = copied(w, 1, keys, 0, 7);
-    copied(k, 8, links, 0, 8)
-}
-
-// The words of an inner node.
-fn inner_words(items: Items) -> [u32; 16]
-    requires { (1 ≤ items.count) × (items.count ≤ 8) }
-    ensures { result ≡ packed 15 1 items }
-{
-    let count = items.count;
-    let mut w = [0u32; 16];
-    w[0] = 15 + (count as u32);
-    let keys = items.keys;
-    let links = items.links;
-    let k = copied(w, 1, keys, 1, 7);
+    let k = copied(w, 1, keys, K::HIDDEN, 7);
     copied(k, 8, links, 0, 8)
 }
 
@@ -133,7 +192,7 @@ pub fn inner_insert(w: [u32; 16], index: usize, key: u32, node: u32) -> [u32; 16
     requires { Inner w × (get_or w 0 0 < 23) × (index < get_or w 0 0 - 15) }
     ensures { result ≡ inner_words (insert_at (suc index) (key, node) (inner_items w)) }
 {
-    inner_words(insert(inner_items(w), index + 1, key, node))
+    pack::<InnerNode>(insert(unpack::<InnerNode>(w, 0), index + 1, key, node))
 }
 
 // The entries that the left half of a full node of `len` keeps, the one at place `ins` in.
@@ -147,37 +206,19 @@ fn split_pos(len: usize, ins: usize) -> usize
     (len + 1) / 2
 }
 
-// A full leaf cut in two, with `key` and `value` at place `at`.
-pub fn leaf_split(w: [u32; 16], at: usize, key: u32, value: u32) -> SplitOff
-    requires { Leaf w × (get_or w 0 0 ≡ 39) × (at ≤ 7) }
-    ensures { result ≡ split_of leaf_words (keeps 7 at) (insert_at at (key, value) (leaf_pairs w)) }
+// A full node cut in two, with `key` and `link` at place `at`.
+pub fn split<K: Kind>(w: [u32; 16], at: usize, key: u32, link: u32) -> SplitOff
+    requires { K.Is w × (get_or w 0 0 ≡ K.TAG + K.CAPACITY) × (at ≤ K.CAPACITY) }
+    ensures { result ≡ split_of K.words (keeps K.CAPACITY at) (insert_at at (key, link) (K.items w)) }
 {
-    let items = insert(leaf_items(w), at, key, value);
-    let l = split_pos(7, at);
-    let parts = cut_at(items, l);
+    let all = insert(unpack::<K>(w, 0), at, key, link);
+    let l = split_pos(K::CAPACITY, at);
+    let parts = cut_at(all, l);
     let left = parts.left;
     let right = parts.right;
     SplitOff {
-        left: leaf_words(left),
-        right: leaf_words(right),
-        key: parts.key,
-    }
-}
-
-// A full inner node cut in two, with `key` at place `index` and `node` right of it.
-pub fn inner_split(w: [u32; 16], index: usize, key: u32, node: u32) -> SplitOff
-    requires { Inner w × (get_or w 0 0 ≡ 23) × (index < 8) }
-    ensures { result ≡ split_of inner_words (keeps 8 (suc index)) (insert_at (suc index) (key, node) (inner_items w)) }
-{
-    let at = index + 1;
-    let items = insert(inner_items(w), at, key, node);
-    let l = split_pos(8, at);
-    let parts = cut_at(items, l);
-    let left = parts.left;
-    let right = parts.right;
-    SplitOff {
-        left: inner_words(left),
-        right: inner_words(right),
+        left: pack::<K>(left),
+        right: pack::<K>(right),
         key: parts.key,
     }
 }
@@ -199,14 +240,14 @@ fn status(removed: usize, left: usize, capacity: usize) -> Removed
     Removed::Empty
 }
 
-// A leaf without its pair at place `at`.
-pub fn leaf_remove(w: [u32; 16], at: usize) -> Cut
-    requires { Leaf w × (at < get_or w 0 0 - 32) }
-    ensures { (result.words ≡ leaf_cut w at) × (result.status ≡ status_of 7 at (get_or w 0 0 - 33)) }
+// A node without its item at place `at`.
+pub fn remove<K: Kind>(w: [u32; 16], at: usize) -> Cut
+    requires { K.Is w × (at < get_or w 0 0 - K.TAG) }
+    ensures { (result.words ≡ cut_of K.TAG K.words K.items w at) × (result.status ≡ status_of K.CAPACITY at (get_or w 0 0 - suc K.TAG)) }
 {
-    let items = remove(leaf_items(w), at);
-    let left = items.count;
-    let how = status(at, left, 7);
+    let others = items::remove(unpack::<K>(w, 0), at);
+    let left = others.count;
+    let how = status(at, left, K::CAPACITY);
     if left == 0 {
         return Cut {
             words: [0u32; 16],
@@ -214,79 +255,33 @@ pub fn leaf_remove(w: [u32; 16], at: usize) -> Cut
         };
     }
     Cut {
-        words: leaf_words(items),
+        words: pack::<K>(others),
         status: how,
     }
 }
 
-// An inner node without its child at place `at`.
-pub fn inner_remove(w: [u32; 16], at: usize) -> Cut
-    requires { Inner w × (at < get_or w 0 0 - 15) }
-    ensures { (result.words ≡ inner_cut w at) × (result.status ≡ status_of 8 at (get_or w 0 0 - 16)) }
+// A node and its right neighbour, which `key` comes before: everything to the right if it fits, or else they share.
+pub fn balance<K: Kind>(w: [u32; 16], v: [u32; 16], key: u32) -> Balanced
+    requires { K.Is w × K.Is v }
+    ensures { result ≡ balance_of K.words K.CAPACITY (K.items w ++ keyed K.HIDDEN key (K.items v)) }
 {
-    let items = remove(inner_items(w), at);
-    let left = items.count;
-    let how = status(at, left, 8);
-    if left == 0 {
-        return Cut {
-            words: [0u32; 16],
-            status: how,
-        };
-    }
-    Cut {
-        words: inner_words(items),
-        status: how,
-    }
-}
-
-// A leaf and its right neighbour: everything to the right if it fits, or else they share.
-pub fn leaf_balance(w: [u32; 16], v: [u32; 16]) -> Balanced
-    requires { Leaf w × Leaf v }
-    ensures { result ≡ balance_of leaf_words 7 (leaf_pairs w ++ leaf_pairs v) }
-{
-    let items = append(leaf_items(w), leaf_items(v));
-    let n = items.count;
-    if n <= 7 {
+    let all = append(unpack::<K>(w, 0), unpack::<K>(v, key));
+    let n = all.count;
+    if n <= K::CAPACITY {
         return Balanced {
             all: true,
             left: [0u32; 16],
-            right: leaf_words(items),
+            right: pack::<K>(all),
             key: 0,
         };
     }
-    let parts = cut_at(items, n - n / 2);
+    let parts = cut_at(all, n - n / 2);
     let left = parts.left;
     let right = parts.right;
     Balanced {
         all: false,
-        left: leaf_words(left),
-        right: leaf_words(right),
-        key: parts.key,
-    }
-}
-
-// The same of inner nodes; `key`, the right one's first, goes down.
-pub fn inner_balance(w: [u32; 16], v: [u32; 16], key: u32) -> Balanced
-    requires { Inner w × Inner v }
-    ensures { result ≡ balance_of inner_words 8 (inner_items w ++ rekey_at 0 key (inner_items v)) }
-{
-    let items = append(inner_items(w), rekey(inner_items(v), key));
-    let n = items.count;
-    if n <= 8 {
-        return Balanced {
-            all: true,
-            left: [0u32; 16],
-            right: inner_words(items),
-            key: 0,
-        };
-    }
-    let parts = cut_at(items, n - n / 2);
-    let left = parts.left;
-    let right = parts.right;
-    Balanced {
-        all: false,
-        left: inner_words(left),
-        right: inner_words(right),
+        left: pack::<K>(left),
+        right: pack::<K>(right),
         key: parts.key,
     }
 }

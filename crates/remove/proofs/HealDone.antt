@@ -23,8 +23,8 @@ use Rattle.crit.proofs.HealMem
 use Rattle.crit.proofs.HealPath
 use Rattle.heal.proofs.HealUp.{Mended}
 use Rattle.heal.proofs.HealTree.{removed}
-use Rattle.heal.proofs.InnerOps.{inner_law}
-use Rattle.heal.proofs.LeafOps.{leaf_law, leaf_front_lem}
+use Rattle.heal.specs.KindLaws.{leaf_law, inner_law}
+use Rattle.node.proofs.Words.{leaf_front_lem}
 use Rattle.remove.proofs.HealTrim.{free_all, free_all_free, free_all_keeps}
 use Rattle.remove.proofs.HealEnd
 use Rattle.remove.proofs.HealPool.{HoldsTree, pool_words}
@@ -80,7 +80,7 @@ module _ (low : ℕ) (two : 2 ≤ low) (half : 2 * low ≤ 8) (L : Row) (Rs : Li
   par_in = parent_there L i b
 
   pub m : Mended leaf_words M w i L Rs s s'
-  m = removed (leaf_law low two half) inner_law key leaf_front_lem L Rs i s b fill (tower_stacked L Rs tower) once_tree holds.0 holds.1 place path more
+  m = removed (leaf_law low two half) inner_law key (λ xs h. leaf_front_lem xs) L Rs i s b fill (tower_stacked L Rs tower) once_tree holds.0 holds.1 place path more
 
   -- numbers
   row_counts : (x : ℕ) → count x (nums M) ≤ count x (nums L)

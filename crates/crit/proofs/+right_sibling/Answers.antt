@@ -20,11 +20,11 @@ returns-then-p-w t c = RightLaws.right_here c.requires (c.args.level - 1) (omega
 pub right_sibling-requires : goal.right_sibling-requires
 right_sibling-requires t c = (omega (arith, c.decreases, c.if-level-eq0.false), WayLaws.way_up c.requires (c.args.level - 1) (omega (arith, c.if-level-eq0.false)))
 
-pub returns-in_default : goal.returns-in_default
-returns-in_default t c = RightLaws.right_off c.requires (c.args.level - 1) (omega (arith, c.if-level-eq0.false)) c.load-w.result _ c.right_sibling.result c.load-w.ensures refl c.if-p-w.false c.right_sibling.ensures c.in_default.is
+pub returns-in_err-key : goal.returns-in_err-key
+returns-in_err-key t c = rw c.from_residual.ensures (RightLaws.right_off c.requires (c.args.level - 1) (omega (arith, c.if-level-eq0.false)) c.load-w.result _ c.right_sibling.result c.load-w.ensures refl c.if-p-w.false c.right_sibling.ensures c.in_err-key.was)
 
 pub load-v-requires : goal.load-v-requires
-load-v-requires t c = RightLaws.right_placed c.requires (c.args.level - 1) (omega (arith, c.if-level-eq0.false)) c.right_sibling.result c.in-Right.key c.in-Right.above c.right_sibling.ensures c.in-Right.is
+load-v-requires t c = RightLaws.right_placed c.requires (c.args.level - 1) (omega (arith, c.if-level-eq0.false)) c.right_sibling.result c.in_ok-key.key c.in_ok-key.above c.right_sibling.ensures c.in_ok-key.was
 
 pub returns : goal.returns
-returns t c = RightLaws.right_up c.requires (c.args.level - 1) (omega (arith, c.if-level-eq0.false)) c.load-w.result _ c.load-v.result c.right_sibling.result c.in-Right.key c.in-Right.above c.load-w.ensures refl c.if-p-w.false c.right_sibling.ensures c.in-Right.is c.load-v.ensures
+returns t c = RightLaws.right_up c.requires (c.args.level - 1) (omega (arith, c.if-level-eq0.false)) c.load-w.result _ c.load-v.result c.right_sibling.result c.in_ok-key.key c.in_ok-key.above c.load-w.ensures refl c.if-p-w.false c.right_sibling.ensures c.in_ok-key.was c.load-v.ensures

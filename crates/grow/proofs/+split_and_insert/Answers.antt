@@ -34,13 +34,13 @@ pub returns-then-w-lt23 : goal.returns-then-w-lt23
 returns-then-w-lt23 t c = λ s g.
     Steps.room-done c.args.ws.now c.args.t c.args.c.tree c.args.c.nodes c.args.c.places s c.args.level (omega (arith, c.if-level-eq0)) (c.args.key, c.args.node) g c.load-w.result c.inner_insert.result c.store.new.ws c.load-w.ensures c.if-w-lt23.true c.inner_insert.ensures c.store.ensures
 
-pub inner_split-split-requires : goal.inner_split-split-requires
-inner_split-split-requires t c =
+pub split-split-requires : goal.split-split-requires
+split-split-requires t c =
     Steps.split_asks c.args.ws.now c.args.t c.args.c.tree c.args.c.nodes c.args.c.places c.args.level (omega (arith, c.if-level-eq0)) c.load-w.result c.load-w.ensures c.requires.scene c.requires.climb.under c.if-w-lt23.false
 
 pub cut-rhs-requires : goal.cut-rhs-requires
 cut-rhs-requires t c =
-    Steps.cuts_asks c.args.ws.now c.args.t c.args.c.tree c.args.c.nodes c.args.c.places c.args.level (omega (arith, c.if-level-eq0)) c.load-w.result c.load-w.ensures c.args.key c.args.node c.inner_split-split.result c.inner_split-split.ensures c.if-w-lt23.false c.requires.scene c.requires.climb
+    Steps.cuts_asks c.args.ws.now c.args.t c.args.c.tree c.args.c.nodes c.args.c.places c.args.level (omega (arith, c.if-level-eq0)) c.load-w.result c.load-w.ensures c.args.key c.args.node c.split-split.result c.split-split.ensures c.if-w-lt23.false c.requires.scene c.requires.climb
 
 pub overflow_sub-level : goal.overflow_sub-level
 overflow_sub-level t c = omega (arith, c.if-level-eq0)
@@ -50,10 +50,10 @@ split_and_insert-requires t c = (
   omega (arith, c.decreases, c.if-level-eq0),
   record {
     scene = Steps.cut_scene c.requires.scene (c.args.key, c.args.node);
-    climb = Steps.climb_asks c.args.ws.now c.args.t c.args.c.tree c.args.c.nodes c.args.c.places c.args.level (omega (arith, c.if-level-eq0)) c.load-w.result c.load-w.ensures c.args.key c.args.node c.inner_split-split.result c.inner_split-split.ensures c.if-w-lt23.false c.requires.scene c.requires.climb c.cut-rhs.new.ws c.cut-rhs.ensures.words;
+    climb = Steps.climb_asks c.args.ws.now c.args.t c.args.c.tree c.args.c.nodes c.args.c.places c.args.level (omega (arith, c.if-level-eq0)) c.load-w.result c.load-w.ensures c.args.key c.args.node c.split-split.result c.split-split.ensures c.if-w-lt23.false c.requires.scene c.requires.climb c.cut-rhs.new.ws c.cut-rhs.ensures.words;
   },
 )
 
 pub returns : goal.returns
 returns t c = λ s g.
-    Steps.climb_done c.args.ws.now c.args.t c.args.c.tree c.args.c.nodes c.args.c.places c.args.level (omega (arith, c.if-level-eq0.false)) c.load-w.result c.load-w.ensures c.args.key c.args.node c.inner_split-split.result c.inner_split-split.ensures c.if-w-lt23.false s g c.cut-rhs.new.ws c.cut-rhs.ensures.words c.cut-rhs.result c.split_and_insert.new.ws c.cut-rhs.ensures.node c.split_and_insert.ensures
+    Steps.climb_done c.args.ws.now c.args.t c.args.c.tree c.args.c.nodes c.args.c.places c.args.level (omega (arith, c.if-level-eq0.false)) c.load-w.result c.load-w.ensures c.args.key c.args.node c.split-split.result c.split-split.ensures c.if-w-lt23.false s g c.cut-rhs.new.ws c.cut-rhs.ensures.words c.cut-rhs.result c.split_and_insert.new.ws c.cut-rhs.ensures.node c.split_and_insert.ensures

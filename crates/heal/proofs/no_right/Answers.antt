@@ -1,15 +1,15 @@
-use mathlib.Core.Path.{refl}
-use Rattle.heal.specs.Cycle.{inner_kind}
-use Rattle.heal.proofs.InnerLaws
+use native.Mathlib.Omega.{arith}
 use Rattle.heal.proofs.JoinLaws
-use Rattle.heal.proofs.InnerOps.{inner_law}
 use Rattle.heal.proofs.no_right.Goals as goal
 
 pub load-w-requires : goal.load-w-requires
-load-w-requires c = JoinLaws.here_placed inner_kind inner_law InnerLaws.inner_length c.requires
+load-w-requires g c = JoinLaws.here_placed g.met.K.Heals.heals c.requires
 
-pub returns-then-p-w : goal.returns-then-p-w
-returns-then-p-w c = InnerLaws.small_on c.requires c.load-w.result c.load-w.ensures c.if-p-w.true
+pub overflow_sub-left : goal.overflow_sub-left
+overflow_sub-left g c = omega (arith, c.TAG.ensures, JoinLaws.here_count g.met.K.Heals.heals c.requires c.load-w.result c.load-w.ensures)
+
+pub returns-then-c-level : goal.returns-then-c-level
+returns-then-c-level g c = JoinLaws.stays_on g.met.K.Heals.heals c.requires c.load-w.result c.load-w.ensures (rw c.TAG.ensures at c.if-c-level.true)
 
 pub returns : goal.returns
-returns c = InnerLaws.small_off c.requires c.load-w.result c.load-w.ensures c.if-p-w.false refl refl refl refl
+returns g c = JoinLaws.stays_off g.met.K.Heals.heals c.requires c.load-w.result c.load-w.ensures (rw c.TAG.ensures at c.if-c-level.false) c.off_end.ensures
