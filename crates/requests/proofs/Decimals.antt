@@ -11,8 +11,9 @@ use borrow.Author.Tests.{lt-ltb, le-ltb, ltb-false}
 use Rattle.forest.specs.Lists.{once}
 use Rattle.forest.specs.declared.Answer.{Answer}
 use Rattle.forest.proofs.ListLaws.{cons_eq, test, is, isnt}
-use Rattle.requests.specs.declared.Said.{Said}
-use Rattle.requests.specs.declared.Said.TheVariants.{Nothing, Line}
+use Rattle.std.specs.Prelude.{Some, None, Bool, true, false}
+use Rattle.std.specs.Int.{from_bool}
+use Rattle.std.specs.declared.option.Option.{Option}
 use Rattle.requests.specs.Text.{digits_of, decimal, line, lines}
 use Rattle.requests.specs.Turns.{spoken}
 
@@ -64,6 +65,11 @@ digits_more l v at most n r m a h t b e =
       spell-more most n (drop at l) m t,
     )
 
+-- found as a digit
+pub found_digit : (b : Bool) → 48 + from_bool b ≡ 48 + once b
+found_digit true = refl
+found_digit false = refl
+
 -- the line, written from the right
 pub line_text : (a : Answer) → digits_of 10 a.number (32 ∷ (48 + once a.found) ∷ 32 ∷ digits_of 10 a.value (10 ∷ [])) ≡ line a
 unfolding line
@@ -90,10 +96,10 @@ line_written a l v w i r f h k lo hi b q e g =
     g ∙ rw (stays, text)
 
 -- the text of what is said
-pub nothing_said : (s : Said) (l : List ℕ) → s ≡ Nothing → length l ≡ 24 → l ≡ take 24 l ++ lines (spoken s)
+pub nothing_said : (s : Option Answer) (l : List ℕ) → s ≡ None → length l ≡ 24 → l ≡ take 24 l ++ lines (spoken s)
 nothing_said s l q h = rw (q, take_all 24 l (omega arith), append-nil)
 
-pub line_said : (s : Said) (a : Answer) (l t : List ℕ) (r : ℕ) → s ≡ Line a → t ≡ take r l ++ line a → t ≡ take r l ++ lines (spoken s)
+pub line_said : (s : Option Answer) (a : Answer) (l t : List ℕ) (r : ℕ) → s ≡ Some a → t ≡ take r l ++ line a → t ≡ take r l ++ lines (spoken s)
 line_said s a l t r q e = rw (q, append-nil) e
 
 -- the text stands from where it starts

@@ -13,7 +13,7 @@ use Rattle.forest.specs.Answers.{refusal}
 use Rattle.forest.specs.Pools.{put, remove, get}
 use Rattle.map.specs.Numbers.{AnswersCall}
 use Rattle.requests.specs.declared.Stage.TheVariants.{Sizes, Count, Request, Stopped}
-use Rattle.requests.specs.declared.Said.TheVariants.{Line}
+use Rattle.std.specs.Prelude.{Some}
 use Rattle.requests.specs.declared.Turn.{Turn}
 use Rattle.requests.specs.Replay.{most_requests, word_at, asked}
 use Rattle.requests.specs.Turns.{goes, stops, asking, after_kind, after_format, after_count, Heeds}
@@ -43,7 +43,7 @@ pub format_done : (words : ℕ) (a : Answer) (r : Turn) → a.number ≡ 0 → r
 unfolding after_format
 format_done words a r q g = g ∙ sym (rw (eq-eqb a.number 0 q))
 
-pub format_refused : (words : ℕ) (a : Answer) → (a.number ≡ 0 → ⊥) → record { stage = Stopped; said = Line a } ≡ after_format words a
+pub format_refused : (words : ℕ) (a : Answer) → (a.number ≡ 0 → ⊥) → record { stage = Stopped; said = Some a } ≡ after_format words a
 unfolding after_format
 format_refused words a q = sym (rw (ne_eqb a.number 0 q))
 
