@@ -69,10 +69,6 @@ judged_falls (Count words) b before after r j = rw j.0 (omega (arith, count_fall
 judged_falls (Request words more) b before after r j = rw j.turn (omega (arith, rank-asking words more))
 judged_falls Stopped b before after r j = rw j.0 (omega arith)
 
--- what the stage wants is there
-pub there : (s t : Stage) (w n : ℕ) → s ≡ t → w ≡ wants_of s → w ≤ n → wants_of t ≤ n
-there s t w n q e h = rw (← q, ← e) h
-
 -- w is what the stage wants
 module _ (s : Stage) (b before after : List ℕ) (r : Turn) (w : ℕ) (e : w ≡ wants_of s) where
   pub turn_early : length b < w → r ≡ stops 7 → after ≡ before → Turned s b before after r × (rank r.stage ≤ rank s - 1)

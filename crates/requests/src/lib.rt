@@ -95,7 +95,7 @@ pub struct Piece {
     pub got: Got,
 }
 
-// What was said, and whether it was written.
+// What was said, and whether it was written: `said` stands in either case, so the flag is no Option's.
 #[derive(Clone, Copy)]
 pub struct Told {
     pub said: Option<Answer>,
@@ -281,6 +281,7 @@ pub fn next(taken: Taken) -> Stage
 }
 
 // The decimal digits of n, at most `most` of them, before place `at`: where they start. What stands before them stays.
+// By hand: std's `write!` promises its text on `Ok` alone, and nothing says that it is `Ok`; a turn has to settle each byte.
 #[tactic(auto, using(crate::proofs::Decimals::digits_last, crate::proofs::Decimals::digits_more))]
 fn digits(out: &mut [u8], at: usize, most: usize, n: u32) -> usize
     requires { (1 ≤ most) × (most ≤ at) × (at ≤ length out.old) × (n < 10 ^ most) }
