@@ -1,51 +1,68 @@
 // A recorded call of 37 words (data/README.md), made and compared.
 ghost use Rattle.std.specs.Prelude.{◌<◌};
 
-use forest::{Answer, Cursor, Moved, Reply};
+use forest::{Answer, Cursor, Moved};
+use std::fmt;
 
-// The calls: the first word of a record.
-const PUT: u32 = 1;
-
-const REMOVE: u32 = 2;
-
-const GET: u32 = 3;
-
-const SEEK: u32 = 11;
-
-const SETTLE: u32 = 12;
-
-const FIRST: u32 = 13;
-
-const NEXT: u32 = 14;
-
-const PREV: u32 = 15;
-
-const REMOVE_AT: u32 = 16;
-
-// How a recorded call went: as recorded, or with another answer, cursor or words, or it is no call that we know.
+// The nine calls.
 #[derive(Clone, Copy)]
-pub enum Verdict {
-    Agrees,
+pub enum Call {
+    Put,
+    Remove,
+    Get,
+    Seek,
+    Settle,
+    First,
+    Next,
+    Prev,
+    RemoveAt,
+}
+
+// A first word of a record that is no call.
+#[derive(Clone, Copy)]
+pub struct Unknown;
+
+impl TryFrom<u32> for Call {
+    type Error = Unknown;
+
+    fn try_from(word: u32) -> Result<Self, Unknown> {
+        match word {
+            1 => Ok(Call::Put),
+            2 => Ok(Call::Remove),
+            3 => Ok(Call::Get),
+            11 => Ok(Call::Seek),
+            12 => Ok(Call::Settle),
+            13 => Ok(Call::First),
+            14 => Ok(Call::Next),
+            15 => Ok(Call::Prev),
+            16 => Ok(Call::RemoveAt),
+            _ => Err(Unknown),
+        }
+    }
+}
+
+// The part in which a call differs from the recorded one.
+#[derive(Clone, Copy)]
+pub enum Differs {
     Answer,
     Cursor,
     Words,
-    Unknown,
 }
 
-// A word goes into a fold: (h xor w) * 16,777,619 modulo 2^32.
-fn mixed(h: u32, w: u32) -> u32 {
-    ((h ^ w) as u64 * 16777619 % 4294967296) as u32
-}
-
-// The fold of all words.
-fn fold(ws: &[u32]) -> u32 {
-    let mut h: u32 = 2166136261;
-    let mut i: usize = 0;
-    while i < ws.len() {
-        h = mixed(h, ws[i]);
-        i += 1;
+impl fmt::Display for Differs {
+    fn fmt<W: fmt::Write>(&self, f: &mut fmt::Formatter<W>) -> fmt::Result {
+        f.write_str(match self {
+            Differs::Answer => "answer",
+            Differs::Cursor => "cursor",
+            Differs::Words => "words",
+        })
     }
-    h
+}
+
+// The fold of all words: each goes in by (h xor w) * 16,777,619 modulo 2^32.
+fn fold(ws: &[u32]) -> u32 {
+    ws.iter()
+        .fold(2166136261, |h: u32, w| (h ^ *w).wrapping_mul(16777619))
 }
 
 // The nodes or the places of a recorded cursor: six words from place `at` on, and zeros.
@@ -53,11 +70,7 @@ fn levels(r: &[u32; 37], at: usize) -> [u32; 16]
     requires { at < 32 }
 {
     let mut ls = [0u32; 16];
-    let mut i: usize = 0;
-    while i < 6 {
-        ls[i] = r[at + i];
-        i += 1;
-    }
+    ls[..6].copy_from_slice(&r[at..at + 6]);
     ls
 }
 
@@ -65,145 +78,54 @@ fn levels(r: &[u32; 37], at: usize) -> [u32; 16]
 fn cursor(r: &[u32; 37], at: usize) -> Cursor
     requires { at < 25 }
 {
-    let nodes = levels(r, at + 1);
-    let places = levels(r, at + 7);
     Cursor {
         tree: r[1],
         size: r[at],
-        nodes: nodes,
-        places: places,
+        nodes: levels(r, at + 1),
+        places: levels(r, at + 7),
     }
-}
-
-// All sixteen words are the same.
-fn same_levels(a: [u32; 16], b: [u32; 16]) -> bool {
-    let mut i: usize = 0;
-    while i < 16 {
-        if a[i] != b[i] {
-            return false;
-        }
-        i += 1;
-    }
-    true
 }
 
 // Tree, size, nodes and places are the same.
-fn same_cursor(a: Cursor, b: Cursor) -> bool {
-    if a.tree != b.tree {
-        return false;
-    }
-    if a.size != b.size {
-        return false;
-    }
-    let nodes = a.nodes;
-    let other_nodes = b.nodes;
-    if !same_levels(nodes, other_nodes) {
-        return false;
-    }
-    let places = a.places;
-    let other_places = b.places;
-    same_levels(places, other_places)
-}
-
-// Found, as a word.
-fn flag(found: bool) -> u32 {
-    if found { 1 } else { 0 }
+fn same_cursor(a: &Cursor, b: &Cursor) -> bool {
+    a.tree == b.tree && a.size == b.size && a.nodes == b.nodes && a.places == b.places
 }
 
 // Number, found, key and value are the recorded ones.
-fn same_answer(a: Answer, r: &[u32; 37]) -> bool {
-    if a.number != r[4] {
-        return false;
-    }
-    if flag(a.found) != r[5] {
-        return false;
-    }
-    if a.key != r[6] {
-        return false;
-    }
-    a.value == r[7]
-}
-
-// Whether a call takes a key and no cursor.
-fn by_key(call: u32) -> bool {
-    match call {
-        PUT | REMOVE | GET => true,
-        _ => false,
-    }
-}
-
-// Whether a call is one of the nine.
-fn known(call: u32) -> bool {
-    match call {
-        SEEK..=REMOVE_AT => true,
-        _ => by_key(call),
-    }
-}
-
-// A call by key.
-fn keyed(ws: &mut [u32], call: u32, tree: u32, key: u32, value: u32) -> Reply {
-    match call {
-        PUT => map::put(ws, tree, key, value),
-        REMOVE => map::remove(ws, tree, key),
-        _ => map::get(ws, tree, key),
-    }
-}
-
-// A call that moves a cursor and no word.
-fn moved(ws: &[u32], call: u32, at: Cursor, key: u32) -> Moved {
-    match call {
-        SEEK => map::seek(ws, at, key),
-        SETTLE => map::settle(ws, at),
-        FIRST => map::first(ws, at),
-        NEXT => map::next(ws, at),
-        _ => map::prev(ws, at),
-    }
-}
-
-// A call from a cursor.
-fn from_cursor(ws: &mut [u32], call: u32, at: Cursor, key: u32) -> Moved {
-    if call == REMOVE_AT {
-        return map::remove_at(ws, at);
-    }
-    moved(ws, call, at, key)
+fn same_answer(a: &Answer, r: &[u32; 37]) -> bool {
+    a.number == r[4] && u32::from(a.found) == r[5] && a.key == r[6] && a.value == r[7]
 }
 
 // A recorded call, made. A call by key has no cursor: the recorded one, all 0, is as it was.
-fn made(ws: &mut [u32], call: u32, r: &[u32; 37]) -> Moved {
+fn made(ws: &mut [u32], call: Call, r: &[u32; 37]) -> Moved {
     let at = cursor(r, 11);
+    let tree = r[1];
     let key = r[2];
-    if by_key(call) {
-        let reply = keyed(ws, call, at.tree, key, r[3]);
-        return Moved {
-            reply: reply,
-            cursor: at,
-        };
-    }
-    from_cursor(ws, call, at, key)
+    let reply = match call {
+        Call::Put => map::put(ws, tree, key, r[3]),
+        Call::Remove => map::remove(ws, tree, key),
+        Call::Get => map::get(ws, tree, key),
+        Call::Seek => return map::seek(ws, at, key),
+        Call::Settle => return map::settle(ws, at),
+        Call::First => return map::first(ws, at),
+        Call::Next => return map::next(ws, at),
+        Call::Prev => return map::prev(ws, at),
+        Call::RemoveAt => return map::remove_at(ws, at),
+    };
+    Moved { reply, cursor: at }
 }
 
-// What a call gave, and the words after it, compared with the recorded ones.
-fn compared(ws: &[u32], m: Moved, r: &[u32; 37]) -> Verdict {
-    let reply = m.reply;
-    let back = m.cursor;
-    if !same_answer(forest::numbered(reply), r) {
-        return Verdict::Answer;
+// A recorded call, made; what it gave, and the words after it, are compared with the recorded ones.
+pub fn judge(ws: &mut [u32], call: Call, r: &[u32; 37]) -> Result<(), Differs> {
+    let m = made(ws, call, r);
+    if !same_answer(&forest::numbered(m.reply), r) {
+        return Err(Differs::Answer);
     }
-    if !same_cursor(back, cursor(r, 24)) {
-        return Verdict::Cursor;
+    if !same_cursor(&m.cursor, &cursor(r, 24)) {
+        return Err(Differs::Cursor);
     }
     if fold(ws) != r[8] {
-        return Verdict::Words;
+        return Err(Differs::Words);
     }
-    Verdict::Agrees
-}
-
-// A recorded call, made and compared.
-pub fn judge(ws: &mut [u32], r: &[u32; 37]) -> Verdict {
-    let call = r[0];
-    if !known(call) {
-        return Verdict::Unknown;
-    }
-    let m = made(ws, call, r);
-    compared(ws, m, r)
+    Ok(())
 }

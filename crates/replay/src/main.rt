@@ -8,14 +8,14 @@ ghost use Rattle.requests.specs.Turns.{room, wants_of, spoken};
 ghost use Rattle.requests.specs.Program.{bytes_of, text_of, TakesTurn, Replays};
 ghost use Rattle.replay.specs.Streams.{Streams, Answers};
 
-use forest::{MAX_NODES, MAX_TREES};
-use requests::{Got, Piece, Said, Stage, Taken, Told};
+use forest::{Answer, MAX_NODES, MAX_TREES};
+use requests::{Got, Piece, Stage, Taken, Told};
 use std::io;
 
 // The words of the largest pool.
 const ROOM: usize = MAX_TREES as usize + 17 * MAX_NODES as usize + 3;
 
-// What was read, and whether that was not all because a read failed.
+// What was read, and whether that was not all because a read failed: what was read counts in either case, so it is no Result.
 #[derive(Clone, Copy)]
 struct Filled {
     got: Got,
@@ -23,6 +23,7 @@ struct Filled {
 }
 
 // Reads until the bytes are full or the input ends. A read that fails ends it too.
+// By hand: std's `read_exact` does not tell how much it read where the input ends or a read fails.
 fn fill<R: io::Read>(input: &mut R, bytes: &mut [u8]) -> Filled
     ensures asked_value { result.got.asked ≡ length bytes.old }
     ensures count_le_asked { result.got.count ≤ result.got.asked }
@@ -44,9 +45,9 @@ fn fill<R: io::Read>(input: &mut R, bytes: &mut [u8]) -> Filled
     Filled {
         got: Got {
             asked: bytes.len(),
-            count: count,
+            count,
         },
-        failed: failed,
+        failed,
     }
 }
 
@@ -59,28 +60,22 @@ fn read<R: io::Read>(input: &mut R, stage: Stage) -> Piece
 {
     let mut bytes = [0u8; 16];
     let wanted = requests::wants(stage);
-    let filled = fill(input, &mut bytes[..wanted]);
-    Piece {
-        bytes: bytes,
-        got: filled.got,
-    }
+    let got = fill(input, &mut bytes[..wanted]).got;
+    Piece { bytes, got }
 }
 
 // Writes the text of what is said.
-fn write<W: io::Write>(output: &mut W, said: Said, text: &[u8]) -> Told
+fn write<W: io::Write>(output: &mut W, said: Option<Answer>, text: &[u8]) -> Told
     requires { text.now ≡ lines (spoken said) }
     ensures said { result.said ≡ said }
     ensures written { IsTrue result.written → Appends (W.contents output.old) (W.contents output.new) (lines (spoken said)) }
 {
     let written = output.write_all(text).is_ok();
-    Told {
-        said: said,
-        written: written,
-    }
+    Told { said, written }
 }
 
 // What is said is made text and written.
-fn say<W: io::Write>(output: &mut W, said: Said) -> Told
+fn say<W: io::Write>(output: &mut W, said: Option<Answer>) -> Told
     ensures said { result.said ≡ said }
     ensures written { IsTrue result.written → Appends (W.contents output.old) (W.contents output.new) (lines (spoken said)) }
 {
@@ -103,12 +98,11 @@ fn turn<R: io::Read, W: io::Write>(
 {
     let piece = read(input, stage);
     let turn = requests::judge(pool, stage, piece);
-    let said = turn.said;
-    let told = say(output, said);
+    let told = say(output, turn.said);
     Taken {
         read: piece,
-        turn: turn,
-        told: told,
+        turn,
+        told,
     }
 }
 

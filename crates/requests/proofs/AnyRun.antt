@@ -16,7 +16,7 @@ use Rattle.history.proofs.Laws.{same_length}
 use Rattle.history.proofs.Premises.{honest, honest_keeps}
 use Rattle.requests.specs.declared.Stage.{Stage}
 use Rattle.requests.specs.declared.Stage.TheVariants.{Kind, Sizes, Count, Request, Stopped}
-use Rattle.requests.specs.declared.Said.TheVariants.{Line}
+use Rattle.std.specs.Prelude.{Some}
 use Rattle.requests.specs.declared.Turn.{Turn}
 use Rattle.requests.specs.Replay.{word_at, request, replay}
 use Rattle.requests.specs.Turns.{sized_by, room, wants_of, goes, stops, asking, after_kind, after_format, after_count, Heeds, Judged, Turned, rank}
@@ -72,7 +72,7 @@ judges (Request words more) b ws =
     let h = heeded (request b) (take n ws) in
     record {
       words = h.words ++ drop n ws;
-      turn = record { stage = asking words more; said = Line h.answer };
+      turn = record { stage = asking words more; said = Some h.answer };
       judged = request_judged b ws h.words words more n _ _ _ _ h.answer _ refl refl refl refl refl h.long h.heeds refl;
     }
 judges Stopped b ws = record { words = ws; turn = goes Stopped; judged = (refl, refl) }

@@ -1,20 +1,19 @@
 -- PROOFS. A number as text: what is written from the right is the number's digits, they read back as the number, and no zero is in front
 use mathlib.Core.Path.{◌≡◌, refl, ap, ◌∙◌}
-use mathlib.Core.List.{List, [], ◌∷◌, ◌++◌, append-nil}
+use mathlib.Core.List.{List, [], ◌∷◌, ◌++◌}
 use Prim.Native.Nat.{ℕ, zero, suc, ◌+◌, ◌-◌, ◌*◌, ◌/◌, ◌%◌, ◌^◌, ◌≤◌, ◌<◌}
 use native.Mathlib.Nat.{pow-suc, div-lt_iff_lt-mul}
 use native.Mathlib.Omega.{arith}
 use lib.Dec.{ltb}
 use lib.ListN.{length, take, drop, set, get_or, length-set, drop_of_length-le}
-use lib.Seq.{drop-cons, drop-set-lt, drop_at, get_or-set_same, length-take-le, set_split, take_all, take-append-le, take-set-le, take-take}
+use lib.Seq.{drop-cons, drop-set-lt, drop_at, get_or-set_same, length-take-le, set_split, take-append-le, take-set-le, take-take}
 use borrow.Author.Tests.{lt-ltb, le-ltb, ltb-false}
 use Rattle.forest.specs.Lists.{once}
 use Rattle.forest.specs.declared.Answer.{Answer}
 use Rattle.forest.proofs.ListLaws.{cons_eq, test, is, isnt}
-use Rattle.requests.specs.declared.Said.{Said}
-use Rattle.requests.specs.declared.Said.TheVariants.{Nothing, Line}
-use Rattle.requests.specs.Text.{digits_of, decimal, line, lines}
-use Rattle.requests.specs.Turns.{spoken}
+use Rattle.std.specs.Prelude.{Bool, true, false}
+use Rattle.std.specs.Int.{from_bool}
+use Rattle.requests.specs.Text.{digits_of, decimal, line}
 
 -- a byte stored before a text
 pub byte_before : (l : List ℕ) (i j v : ℕ) → j ≡ suc i → i < length l → drop i (set l i v) ≡ v ∷ drop j l
@@ -64,6 +63,11 @@ digits_more l v at most n r m a h t b e =
       spell-more most n (drop at l) m t,
     )
 
+-- found as a digit
+pub found_digit : (b : Bool) → 48 + from_bool b ≡ 48 + once b
+found_digit true = refl
+found_digit false = refl
+
 -- the line, written from the right
 pub line_text : (a : Answer) → digits_of 10 a.number (32 ∷ (48 + once a.found) ∷ 32 ∷ digits_of 10 a.value (10 ∷ [])) ≡ line a
 unfolding line
@@ -88,17 +92,6 @@ line_written a l v w i r f h k lo hi b q e g =
     take-set-le r v2 (i - 3) 32 b ∙ take-set-le r v1 (i - 2) f (omega arith) ∙ take-set-le r v (i - 1) 32 (omega arith) ∙
     rw e (take-append-le r (take i (set l 23 10)) _ (omega arith) ∙ take-take r i (set l 23 10) (omega arith) ∙ take-set-le r l 23 10 (omega arith)) in
     g ∙ rw (stays, text)
-
--- the text of what is said
-pub nothing_said : (s : Said) (l : List ℕ) → s ≡ Nothing → length l ≡ 24 → l ≡ take 24 l ++ lines (spoken s)
-nothing_said s l q h = rw (q, take_all 24 l (omega arith), append-nil)
-
-pub line_said : (s : Said) (a : Answer) (l t : List ℕ) (r : ℕ) → s ≡ Line a → t ≡ take r l ++ line a → t ≡ take r l ++ lines (spoken s)
-line_said s a l t r q e = rw (q, append-nil) e
-
--- the text stands from where it starts
-pub from_start : (l x text : List ℕ) (r : ℕ) → length l ≡ 24 → r ≤ 24 → x ≡ take r l ++ text → drop r x ≡ text
-from_start l x text r n h e = rw e (drop_at (take r l) text r (length-take-le r l (omega arith)))
 
 -- The text of a number is right
 

@@ -13,7 +13,7 @@ use Rattle.forest.specs.Pools.{format_words, format_answer}
 use Rattle.forest.proofs.ListLaws.{test, is, isnt}
 use Rattle.requests.specs.declared.Stage.{Stage}
 use Rattle.requests.specs.declared.Stage.TheVariants.{Kind, Sizes, Count, Request, Stopped}
-use Rattle.requests.specs.declared.Said.TheVariants.{Line}
+use Rattle.std.specs.Prelude.{Some}
 use Rattle.requests.specs.declared.Turn.{Turn}
 use Rattle.requests.specs.Replay.{most_requests, word_at, sized, asked}
 use Rattle.requests.specs.Turns.{sized_by, wants_of, stops, asking, after_kind, after_format, after_count, Heeds, Sized, Requested, Judged, Turned, rank}
@@ -35,10 +35,10 @@ sizes_judged b s v T N n a r p q e k f g h =
 pub request_judged : (b s v : List ℕ) (words more n kind tree key value : ℕ) (a : Answer) (next : Stage) →
     kind ≡ word_at b 0 → tree ≡ word_at b 4 → key ≡ word_at b 8 → value ≡ word_at b 12 →
     n ≡ min words (length s) → length v ≡ length (take n s) → Heeds (asked kind tree key value) (take n s) v a → next ≡ asking words more →
-    Requested words more b s (v ++ drop n s) (record { stage = next; said = Line a })
+    Requested words more b s (v ++ drop n s) (record { stage = next; said = Some a })
 request_judged b s v words more n kind tree key value a next p q o t e k h g = record {
   answer = a;
-  turn = ap (λ x. record { stage = x; said = Line a }) g;
+  turn = ap (λ x. record { stage = x; said = Some a }) g;
   heeds = rw (← p, ← q, ← o, ← t, back s words n e v k, ← (lent s words n e)) h;
   others = behind s words n e v k;
 }
@@ -62,16 +62,12 @@ count_falls words b = elim (test (leb (word_at b 0) most_requests)) [
   | isnt e ↦ simp e (omega arith)
 ]
 
-judged_falls : (s : Stage) (b before after : List ℕ) (r : Turn) → Judged s b before after r → rank r.stage ≤ rank s - 1
+pub judged_falls : (s : Stage) (b before after : List ℕ) (r : Turn) → Judged s b before after r → rank r.stage ≤ rank s - 1
 judged_falls Kind b before after r j = rw j.0 (omega (arith, kind_falls b))
 judged_falls Sizes b before after r j = rw j.turn (omega (arith, format_falls (sized_by b) (answer_of (format_answer (word_at b 0) (word_at b 4) (take (sized_by b) before)))))
 judged_falls (Count words) b before after r j = rw j.0 (omega (arith, count_falls words b))
 judged_falls (Request words more) b before after r j = rw j.turn (omega (arith, rank-asking words more))
 judged_falls Stopped b before after r j = rw j.0 (omega arith)
-
--- what the stage wants is there
-pub there : (s t : Stage) (w n : ℕ) → s ≡ t → w ≡ wants_of s → w ≤ n → wants_of t ≤ n
-there s t w n q e h = rw (← q, ← e) h
 
 -- w is what the stage wants
 module _ (s : Stage) (b before after : List ℕ) (r : Turn) (w : ℕ) (e : w ≡ wants_of s) where

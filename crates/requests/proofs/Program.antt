@@ -29,28 +29,6 @@ takes_falls s next w vs us e q h t n =
     let falls = following_falls e.told.written s e.turn.stage (turned_falls s _ vs us _ t.turned) in
     rw n (omega (arith, wanting s w q h))
 
--- some turns have led to the words vs, and d is the last
-pub record Took (ws vs : List ℕ) (d : Taken) : Type 0 where
-  pub bytes : List ℕ
-  pub text : List ℕ
-  pub turns : Takings ws vs bytes text d
-
--- whatever led to vs and d leads to us and e
-abbrev pub LeadsTo : List ℕ → Taken → List ℕ → Taken → Type 0
-LeadsTo vs d us e = (ws : List ℕ) → Took ws vs d → Took ws us e
-
-pub took_first : (ws vs : List ℕ) (d : Taken) → TakesTurn Kind ws vs d → Took ws vs d
-took_first ws vs d t = record { bytes = _; text = _; turns = first t }
-
--- one more turn, at the stage that follows
-pub leads_on : (os vs us : List ℕ) (o d e : Taken) (s : Stage) (w : ℕ) → LeadsTo os o vs d → s ≡ following d → w ≡ wants_of s → 0 < w →
-    TakesTurn s vs us e → LeadsTo os o us e
-leads_on os vs us o d e s w l q n h t ws k =
-    let m = l ws k in
-    let n : 0 < wants_of (following d) = rw (← q, ← n) h in
-    let f : TakesTurn (following d) vs us e = rw q at t in
-    record { bytes = _; text = _; turns = then m.turns n f }
-
 -- a stage that wants nothing is the end
 pub wants_none : (s : Stage) (w : ℕ) → w ≡ wants_of s → w ≤ 0 → s ≡ Stopped
 wants_none Kind w e h = absurd (omega arith)

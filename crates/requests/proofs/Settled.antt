@@ -18,7 +18,7 @@ use Rattle.history.proofs.Laws.{one_outcome, one_move_outcome}
 use Rattle.map.specs.Numbers.{AnswersCall, AnswersMove}
 use Rattle.requests.specs.declared.Stage.{Stage}
 use Rattle.requests.specs.declared.Stage.TheVariants.{Kind, Sizes, Count, Request, Stopped}
-use Rattle.requests.specs.declared.Said.TheVariants.{Line}
+use Rattle.std.specs.Prelude.{Some}
 use Rattle.requests.specs.declared.Turn.{Turn}
 use Rattle.requests.specs.Replay.{request}
 use Rattle.requests.specs.Turns.{sized_by, wants_of, asking, Heeds, Judged, Turned}
@@ -50,7 +50,7 @@ module _ (b before x y : List ℕ) (r q : Turn) where
   one_judged (Count words) h k = (h.1 ∙ sym k.1, h.0 ∙ sym k.0)
   one_judged (Request words more) h k =
       let o = one_heed (request b) (take words before) (take words x) (take words y) h.answer k.answer h.heeds k.heeds in
-      (parts words x y o.0 (h.others ∙ sym k.others), h.turn ∙ ap (λ a. record { stage = asking words more; said = Line a }) o.1 ∙ sym k.turn)
+      (parts words x y o.0 (h.others ∙ sym k.others), h.turn ∙ ap (λ a. record { stage = asking words more; said = Some a }) o.1 ∙ sym k.turn)
   one_judged Stopped h k = (h.1 ∙ sym k.1, h.0 ∙ sym k.0)
 
   pub one_turn : (s : Stage) → Turned s b before x r → Turned s b before y q → (x ≡ y) × (r ≡ q)

@@ -18,7 +18,7 @@ use Rattle.forest.proofs.CountLaws.{fresh_formed, format_in}
 use Rattle.forest.proofs.PoolLaws.{call_formed}
 use Rattle.requests.specs.declared.Stage.{Stage}
 use Rattle.requests.specs.declared.Stage.TheVariants.{Kind, Sizes, Count, Request, Stopped}
-use Rattle.requests.specs.declared.Said.TheVariants.{Line}
+use Rattle.std.specs.Prelude.{Some}
 use Rattle.requests.specs.declared.Turn.{Turn}
 use Rattle.requests.specs.Text.{line, lines}
 use Rattle.requests.specs.Replay.{word_at, sized, request, heed, answered, counted, pooled, replayed, replay}
@@ -162,7 +162,7 @@ request_read : (b : List ℕ) → request (take 16 b) ≡ request b
 request_read b = rw (word_read 16 b 0 (omega arith), word_read 16 b 4 (omega arith), word_read 16 b 8 (omega arith), word_read 16 b 12 (omega arith))
 
 request-goes : (words more : ℕ) (b : List ℕ) (p : Pool) (ws vs : List ℕ) (a : Answer) → Shown words ws p → 16 ≤ length b →
-    Heeds (request (take 16 b)) (take words ws) (take words vs) a → TurnsTo (Request words more) b p vs (record { stage = asking words more; said = Line a })
+    Heeds (request (take 16 b)) (take words ws) (take words vs) a → TurnsTo (Request words more) b p vs (record { stage = asking words more; said = Some a })
 request-goes words more b p ws vs a s h k =
     let d = heeded (request b) words ws vs p a s (rw request_read at k) in
     record {

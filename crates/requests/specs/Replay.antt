@@ -1,11 +1,16 @@
 -- DEFINITIONS. Document 01's replay: the text that a list of bytes is answered with
-use Rattle.std.specs.Prelude.{List, [], ◌∷◌, cond, ℕ, zero, suc, ◌+◌, ◌*◌, length, drop, get_or, ltb, leb, eqb}
+use Rattle.std.specs.Prelude.{◌≡◌, List, [], ◌∷◌, cond, ℕ, zero, suc, ◌+◌, ◌*◌, length, drop, get_or, ltb, leb, eqb, Ok, Err}
+use Rattle.std.specs.declared.result.Result.{Result}
 use Rattle.std.proofs.Math.Option.{Option, none, some}
 use Rattle.forest.specs.declared.Answer.{Answer}
 use Rattle.forest.specs.declared.Refusal.TheVariants.{NoFormat}
 use Rattle.forest.specs.declared.Reply.TheVariants.{Refused}
 use Rattle.forest.specs.Answers.{refusal, answer_of}
 use Rattle.forest.specs.Pools.{Pool, Call, put, remove, get, call, fresh, formatted}
+use Rattle.requests.specs.declared.Call.{Call as Asked}
+use Rattle.requests.specs.declared.Call.TheVariants.{Put, Remove, Get}
+use Rattle.requests.specs.declared.Fault.{Fault}
+use Rattle.requests.specs.declared.Fault.TheVariants.{Unknown, NoDelivery}
 use Rattle.requests.specs.Text.{lines}
 
 -- a delivery has at most so many requests
@@ -30,6 +35,22 @@ asked kind tree key value =
 -- the request of sixteen bytes
 abbrev pub request : List ℕ → Option Call
 request b = asked (word_at b 0) (word_at b 4) (word_at b 8) (word_at b 12)
+
+-- the number of each call of a request
+abbrev pub kind_of : Asked → ℕ
+kind_of Put = 1
+kind_of Remove = 2
+kind_of Get = 3
+
+-- a number names the call that has it, and else none
+abbrev pub Names : ℕ → Result Asked Fault → Type 0
+Names kind (Ok c) = kind ≡ kind_of c
+Names kind (Err f) = (f ≡ Unknown) × ((c : Asked) → kind ≡ kind_of c → ⊥)
+
+-- the answer to a fault: 6 for an unknown request, 7 for what is no delivery
+abbrev pub faulted : Fault → Answer
+faulted Unknown = refusal 6
+faulted NoDelivery = refusal 7
 
 -- what comes of a request: its answer, and the pool afterwards
 pub record Served : Type 0 where

@@ -1,5 +1,6 @@
 -- DEFINITIONS. The replay in turns: at each stage so many bytes are read, and judged
-use Rattle.std.specs.Prelude.{◌≡◌, List, [], ◌∷◌, cond, ℕ, zero, suc, ◌+◌, ◌≤◌, ◌<◌, length, take, drop, leb, eqb}
+use Rattle.std.specs.Prelude.{◌≡◌, List, [], ◌∷◌, cond, ℕ, zero, suc, ◌+◌, ◌≤◌, ◌<◌, length, take, drop, leb, eqb, Some, None}
+use Rattle.std.specs.declared.option.Option.{Option as Maybe}
 use Rattle.std.proofs.Math.Option.{Option, none, some}
 use Rattle.forest.specs.Sizes.{most_trees, most_nodes}
 use Rattle.forest.specs.declared.Answer.{Answer}
@@ -8,8 +9,6 @@ use Rattle.forest.specs.Pools.{Call, format_words, format_answer}
 use Rattle.map.specs.Numbers.{AnswersCall}
 use Rattle.requests.specs.declared.Stage.{Stage}
 use Rattle.requests.specs.declared.Stage.TheVariants.{Kind, Sizes, Count, Request, Stopped}
-use Rattle.requests.specs.declared.Said.{Said}
-use Rattle.requests.specs.declared.Said.TheVariants.{Nothing, Line}
 use Rattle.requests.specs.declared.Turn.{Turn}
 use Rattle.requests.specs.Replay.{most_requests, word_at, sized, request}
 
@@ -30,17 +29,17 @@ wants_of (Request words more) = 16
 wants_of Stopped = 0
 
 -- what is said, as answers
-abbrev pub spoken : Said → List Answer
-spoken Nothing = []
-spoken (Line a) = a ∷ []
+abbrev pub spoken : Maybe Answer → List Answer
+spoken None = []
+spoken (Some a) = a ∷ []
 
 -- nothing is said, and stage s is next
 abbrev pub goes : Stage → Turn
-goes s = record { stage = s; said = Nothing }
+goes s = record { stage = s; said = None }
 
 -- the number n is said, and nothing more is read
 abbrev pub stops : ℕ → Turn
-stops n = record { stage = Stopped; said = Line (refusal n) }
+stops n = record { stage = Stopped; said = Some (refusal n) }
 
 -- n requests are left
 abbrev pub asking : ℕ → ℕ → Stage
@@ -53,7 +52,7 @@ after_kind b = cond (eqb (word_at b 0) 2) (goes Sizes) (stops 7)
 
 -- a format's answer judged, for a pool of so many words
 unfoldable pub after_format : ℕ → Answer → Turn
-after_format words a = cond (eqb a.number 0) (goes (Count words)) (record { stage = Stopped; said = Line a })
+after_format words a = cond (eqb a.number 0) (goes (Count words)) (record { stage = Stopped; said = Some a })
 
 -- the count judged
 unfoldable pub after_count : ℕ → List ℕ → Turn
@@ -73,7 +72,7 @@ Heeds (some c) before after a = AnswersCall c before after a
 -- a request judged, on the pool's part of the words: its answer is said, and the next is asked for
 pub record Requested (words more : ℕ) (b before after : List ℕ) (r : Turn) : Type 0 where
   pub answer : Answer
-  pub turn : r ≡ record { stage = asking words more; said = Line answer }
+  pub turn : r ≡ record { stage = asking words more; said = Some answer }
   pub heeds : Heeds (request b) (take words before) (take words after) answer
   pub others : drop words after ≡ drop words before
 

@@ -2,11 +2,9 @@
 #![tactic(auto)]
 
 ghost use Rattle.std.specs.Prelude.{◌≡◌, ◌++◌, ◌+◌, ◌-◌, ◌*◌, ◌^◌, ◌≤◌, ◌<◌, min, length, take, drop};
-ghost use Rattle.forest.specs.Lists.{once};
 ghost use Rattle.forest.specs.Answers.{answer_of};
-ghost use Rattle.forest.specs.Answers.{refusal as refusal-of};
 ghost use Rattle.requests.specs.Text.{digits_of, line, lines};
-ghost use Rattle.requests.specs.Replay.{word_at, asked};
+ghost use Rattle.requests.specs.Replay.{word_at, asked, faulted, Names};
 ghost use Rattle.requests.specs.Turns.{wants_of, spoken, goes, stops, asking, after_kind, after_format, after_count};
 ghost use Rattle.requests.specs.Turns.{Heeds, Sized, Requested, Turned, rank};
 ghost use Rattle.requests.specs.Program.{bytes_of, following};
@@ -17,16 +15,53 @@ use forest::{Answer, Reply};
 const KIND: u32 = 2;
 // Requests of a delivery at most.
 const MAX_REQUESTS: u32 = 4096;
-// The first word of a request.
-const PUT: u32 = 1;
 
-const REMOVE: u32 = 2;
+// The calls that a request can ask for.
+#[derive(Clone, Copy)]
+enum Call {
+    Put,
+    Remove,
+    Get,
+}
 
-const GET: u32 = 3;
-// The number of an unknown request, and of a delivery that is not one.
-const UNKNOWN: u32 = 6;
+impl TryFrom<u32> for Call {
+    type Error = Fault;
 
-const NO_DELIVERY: u32 = 7;
+    ghost try_from_gives = { Names };
+
+    fn try_from(kind: u32) -> Result<Self, Fault> {
+        match kind {
+            1 => Ok(Call::Put),
+            2 => Ok(Call::Remove),
+            3 => Ok(Call::Get),
+            _ => Err(Fault::Unknown),
+        }
+    }
+}
+
+// What is wrong with the words: a request for no call, or no delivery.
+#[derive(Clone, Copy)]
+enum Fault {
+    Unknown,
+    NoDelivery,
+}
+
+// A fault is answered with its number alone.
+impl From<Fault> for Answer {
+    ghost from_gives = { λ fault answer. answer ≡ faulted fault };
+
+    fn from(fault: Fault) -> Self {
+        Answer {
+            number: match fault {
+                Fault::Unknown => 6,
+                Fault::NoDelivery => 7,
+            },
+            found: false,
+            key: 0,
+            value: 0,
+        }
+    }
+}
 
 // What is read next: the first word; T and N; the count, for a pool of so many words; a request on such a pool, and how many
 // come after it; nothing.
@@ -39,18 +74,11 @@ pub enum Stage {
     Stopped,
 }
 
-// What is said in a turn.
-#[derive(Clone, Copy)]
-pub enum Said {
-    Nothing,
-    Line(Answer),
-}
-
-// What a turn hands back: what is read next, and what is said.
+// What a turn hands back: what is read next, and what is said, if anything.
 #[derive(Clone, Copy)]
 pub struct Turn {
     pub stage: Stage,
-    pub said: Said,
+    pub said: Option<Answer>,
 }
 
 // How many bytes a reading asked for, and how many it got.
@@ -67,10 +95,10 @@ pub struct Piece {
     pub got: Got,
 }
 
-// What was said, and whether it was written.
+// What was said, and whether it was written: `said` stands in either case, so the flag is no Option's.
 #[derive(Clone, Copy)]
 pub struct Told {
-    pub said: Said,
+    pub said: Option<Answer>,
     pub written: bool,
 }
 
@@ -96,36 +124,13 @@ pub fn wants(stage: Stage) -> usize
     }
 }
 
-// A byte as a word.
-fn wide(x: u8) -> u32
-    ensures value { result ≡ x }
-    ensures upper_bound { result < 256 }
-{
-    x as u32
-}
-
 // The little-endian word of the four bytes from place i on.
+#[tactic(auto, unfolding(crate::specs::Replay::word_at))]
 fn word(b: &[u8], i: usize) -> u32
     requires { i + 4 ≤ length b.now }
     ensures { result ≡ word_at b.now i }
 {
-    let first = wide(b[i]);
-    let second = wide(b[i + 1]);
-    let third = wide(b[i + 2]);
-    let last = wide(b[i + 3]);
-    first + 256 * second + 65536 * third + 16777216 * last
-}
-
-// An answer that is a number alone.
-fn refusal(number: u32) -> Answer
-    ensures { result ≡ refusal-of number }
-{
-    Answer {
-        number: number,
-        found: false,
-        key: 0,
-        value: 0,
-    }
+    u32::from_le_bytes([b[i], b[i + 1], b[i + 2], b[i + 3]])
 }
 
 // Nothing is said, and the stage is next.
@@ -134,17 +139,17 @@ fn go(stage: Stage) -> Turn
 {
     Turn {
         stage: stage,
-        said: Said::Nothing,
+        said: None,
     }
 }
 
-// The number is said, and nothing more is read.
-fn stop(number: u32) -> Turn
-    ensures { result ≡ stops number }
+// That it is no delivery is said, and nothing more is read.
+fn stop() -> Turn
+    ensures { result ≡ stops 7 }
 {
     Turn {
         stage: Stage::Stopped,
-        said: Said::Line(refusal(number)),
+        said: Some(Answer::from(Fault::NoDelivery)),
     }
 }
 
@@ -159,6 +164,7 @@ fn ask(words: usize, left: u32) -> Stage
 }
 
 // The first word.
+#[tactic(auto, unfolding(crate::specs::Turns::after_kind))]
 fn after_kind(b: &[u8]) -> Turn
     requires { 4 ≤ length b.now }
     ensures { result ≡ after_kind b.now }
@@ -166,17 +172,11 @@ fn after_kind(b: &[u8]) -> Turn
     if word(b, 0) == KIND {
         return go(Stage::Sizes);
     }
-    stop(NO_DELIVERY)
-}
-
-// A pool of so many words has this many of the space: all, where there are fewer.
-fn part(words: usize, long: usize) -> usize
-    ensures { result ≡ min words long }
-{
-    if words < long { words } else { long }
+    stop()
 }
 
 // A format's reply: where it is refused that is said, and nothing more is read.
+#[tactic(auto, unfolding(crate::specs::Turns::after_format))]
 fn after_format(words: usize, reply: Reply) -> Turn
     ensures { result ≡ after_format words (answer_of reply) }
 {
@@ -186,7 +186,7 @@ fn after_format(words: usize, reply: Reply) -> Turn
     }
     Turn {
         stage: Stage::Stopped,
-        said: Said::Line(answer),
+        said: Some(answer),
     }
 }
 
@@ -197,12 +197,13 @@ fn after_sizes(space: &mut [u32], b: &[u8]) -> Turn
 {
     let trees = word(b, 0);
     let nodes = word(b, 4);
-    let words = trees as usize + 17 * (nodes as usize) + 3;
-    let n = part(words, space.len());
+    let words = trees as usize + 17 * nodes as usize + 3;
+    let n = words.min(space.len());
     after_format(words, pool::format(&mut space[..n], trees, nodes))
 }
 
 // The count.
+#[tactic(auto, unfolding(crate::specs::Turns::after_count))]
 fn after_count(words: usize, b: &[u8]) -> Turn
     requires { 4 ≤ length b.now }
     ensures { result ≡ after_count words b.now }
@@ -211,23 +212,20 @@ fn after_count(words: usize, b: &[u8]) -> Turn
     if count <= MAX_REQUESTS {
         return go(ask(words, count));
     }
-    stop(NO_DELIVERY)
+    stop()
 }
 
 // A request of four words, on any words: 1 put, 2 remove, 3 get; 6 where it is unknown.
+#[tactic(auto, unfolding(crate::specs::Replay::asked))]
 fn answer_request(ws: &mut [u32], kind: u32, tree: u32, key: u32, value: u32) -> Answer
     ensures { Heeds (asked kind tree key value) ws.old ws.new result }
 {
-    if kind == PUT {
-        return forest::numbered(map::put(ws, tree, key, value));
+    match Call::try_from(kind) {
+        Ok(Call::Put) => forest::numbered(map::put(ws, tree, key, value)),
+        Ok(Call::Remove) => forest::numbered(map::remove(ws, tree, key)),
+        Ok(Call::Get) => forest::numbered(map::get(ws, tree, key)),
+        Err(fault) => Answer::from(fault),
     }
-    if kind == REMOVE {
-        return forest::numbered(map::remove(ws, tree, key));
-    }
-    if kind == GET {
-        return forest::numbered(map::get(ws, tree, key));
-    }
-    refusal(UNKNOWN)
 }
 
 // A request, and how many come after it.
@@ -239,11 +237,11 @@ fn after_request(space: &mut [u32], words: usize, more: u32, b: &[u8]) -> Turn
     let tree = word(b, 4);
     let key = word(b, 8);
     let value = word(b, 12);
-    let n = part(words, space.len());
+    let n = words.min(space.len());
     let answer = answer_request(&mut space[..n], kind, tree, key, value);
     Turn {
         stage: ask(words, more),
-        said: Said::Line(answer),
+        said: Some(answer),
     }
 }
 
@@ -253,7 +251,7 @@ fn step(space: &mut [u32], stage: Stage, b: &[u8]) -> Turn
     ensures falls { rank result.stage ≤ rank stage - 1 }
 {
     if b.len() < wants(stage) {
-        return stop(NO_DELIVERY);
+        return stop();
     }
     match stage {
         Stage::Kind => after_kind(b),
@@ -269,25 +267,22 @@ pub fn judge(space: &mut [u32], stage: Stage, read: Piece) -> Turn
     requires { read.got.count ≤ length read.bytes }
     ensures { Turned stage (bytes_of read) space.old space.new result }
 {
-    let bytes = read.bytes;
-    let got = read.got;
-    let count = got.count;
-    step(space, stage, &bytes[..count])
+    step(space, stage, &read.bytes[..read.got.count])
 }
 
 // What is read after a turn: nothing where what is said could not be written.
 pub fn next(taken: Taken) -> Stage
     ensures { result ≡ following taken }
 {
-    let told = taken.told;
-    if told.written {
-        let turn = taken.turn;
-        return turn.stage;
+    if taken.told.written {
+        return taken.turn.stage;
     }
     Stage::Stopped
 }
 
 // The decimal digits of n, at most `most` of them, before place `at`: where they start. What stands before them stays.
+// By hand: std's `write!` promises its text on `Ok` alone, and nothing says that it is `Ok`; a turn has to settle each byte.
+#[tactic(auto, using(crate::proofs::Decimals::digits_last, crate::proofs::Decimals::digits_more))]
 fn digits(out: &mut [u8], at: usize, most: usize, n: u32) -> usize
     requires { (1 ≤ most) × (most ≤ at) × (at ≤ length out.old) × (n < 10 ^ most) }
     ensures text { out.new ≡ take result out.old ++ digits_of most n (drop at out.old) }
@@ -301,16 +296,6 @@ fn digits(out: &mut [u8], at: usize, most: usize, n: u32) -> usize
     digits(out, at - 1, most - 1, n / 10)
 }
 
-// Found as a digit.
-fn flag(found: bool) -> u8
-    ensures { result ≡ 48 + once found }
-{
-    if found {
-        return b'1';
-    }
-    b'0'
-}
-
 // The line of an answer, at the end of `out`: where it starts. The bytes before it stay.
 fn write_line(out: &mut [u8], answer: Answer) -> usize
     requires { length out.old ≡ 24 }
@@ -320,28 +305,19 @@ fn write_line(out: &mut [u8], answer: Answer) -> usize
     out[23] = b'\n';
     let value = digits(out, 23, 10, answer.value);
     out[value - 1] = b' ';
-    out[value - 2] = flag(answer.found);
+    out[value - 2] = b'0' + u8::from(answer.found);
     out[value - 3] = b' ';
     digits(out, value - 3, 10, answer.number)
 }
 
-// The text of what is said, at the end of `out`: where it starts. The bytes before it stay.
-fn write_text(out: &mut [u8], said: Said) -> usize
-    requires { length out.old ≡ 24 }
-    ensures text { out.new ≡ take result out.old ++ lines (spoken said) }
-    ensures start { result ≤ 24 }
-{
-    match said {
-        Said::Nothing => 24,
-        Said::Line(answer) => write_line(out, answer),
-    }
-}
-
-// The same, in a buffer that is as long as the longest line.
-pub fn write_said(out: &mut [u8; 24], said: Said) -> usize
+// The text of what is said, at the end of a buffer that is as long as the longest line: where it starts. The bytes before it stay.
+pub fn write_said(out: &mut [u8; 24], said: Option<Answer>) -> usize
     ensures text { out.new ≡ take result out.old ++ lines (spoken said) }
     ensures start { (result ≤ 24) × (length out.new ≡ 24) }
     ensures told { drop result out.new ≡ lines (spoken said) }
 {
-    write_text(out, said)
+    match said {
+        None => 24,
+        Some(answer) => write_line(out, answer),
+    }
 }

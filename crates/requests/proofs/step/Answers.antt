@@ -1,22 +1,13 @@
-use mathlib.Core.Path.{refl}
+use Rattle.std.proofs.Common.{refl}
 use Rattle.requests.specs.declared.Stage.TheVariants.{Kind, Sizes, Count}
-use Rattle.requests.proofs.Falling.{turn_whole}
+use Rattle.requests.proofs.Falling.{judged_falls}
 use Rattle.requests.proofs.step.Goals as goal
 
-pub returns-in-Kind : goal.returns-in-Kind
-returns-in-Kind c = let both = turn_whole _ _ _ _ _ _ c.wants.ensures.value Kind c.in-Kind.is c.if-b-wants.false (c.after_kind.ensures, refl) in record {
-  turned = both.0;
-  falls = both.1;
-}
+pub returns-in-Kind-clause-falls : goal.returns-in-Kind-clause-falls
+returns-in-Kind-clause-falls c = rw c.in-Kind.is (judged_falls Kind _ c.args.space.now c.args.space.now _ (c.after_kind.ensures, refl))
 
-pub returns-in-Sizes : goal.returns-in-Sizes
-returns-in-Sizes c = let both = turn_whole _ _ _ _ _ _ c.wants.ensures.value Sizes c.in-Sizes.is c.if-b-wants.false c.after_sizes.ensures in record {
-  turned = both.0;
-  falls = both.1;
-}
+pub returns-in-Sizes-clause-falls : goal.returns-in-Sizes-clause-falls
+returns-in-Sizes-clause-falls c = rw c.in-Sizes.is (judged_falls Sizes _ _ _ _ c.after_sizes.ensures)
 
-pub returns-in-Count : goal.returns-in-Count
-returns-in-Count c = let both = turn_whole _ _ _ _ _ _ c.wants.ensures.value (Count _) c.in-Count.is c.if-b-wants.false (c.after_count.ensures, refl) in record {
-  turned = both.0;
-  falls = both.1;
-}
+pub returns-in-Count-clause-falls : goal.returns-in-Count-clause-falls
+returns-in-Count-clause-falls c = rw c.in-Count.is (judged_falls (Count _) _ c.args.space.now c.args.space.now _ (c.after_count.ensures, refl))
