@@ -1,4 +1,4 @@
--- DEFINITIONS. What the programs print of words and answers
+-- DEFINITIONS. What the programs print of words and replies
 use Rattle.std.specs.Prelude.{ℕ, Bool, true, false, List, [], ◌∷◌, ◌++◌, flat_map}
 use Rattle.std.specs.Fmt.{decimal}
 use Rattle.forest.specs.declared.Answer.{Answer}

@@ -1,10 +1,11 @@
-// What the programs print: answers and words as numbers in a line, each with a blank after it.
+// What the programs print of replies and words: numbers in a line, each with a blank after it.
 #![tactic(auto)]
 
 ghost use Rattle.std.specs.Prelude.{Some, flat_map};
+ghost use Rattle.forest.specs.Answers.{answer_of};
 ghost use Rattle.lines.specs.Text.{spaced, answer_text};
 
-use forest::Answer;
+use forest::{Answer, Reply};
 use std::fmt;
 
 // Words, in order.
@@ -22,12 +23,12 @@ impl fmt::Display for Words<'_> {
     }
 }
 
-// The numbers of an answer: its number, found as 0 or 1, key, value.
+// A reply in document 01's numbers: number, found as 0 or 1, key, value.
 #[derive(Clone, Copy)]
-pub struct Numbers(pub Answer);
+pub struct Numbers(pub Reply);
 
 impl fmt::Display for Numbers {
-    ghost output = { λ n. Some (answer_text n.0) };
+    ghost output = { λ n. Some (answer_text (answer_of n.0)) };
 
     fn fmt<W: fmt::Write>(&self, f: &mut fmt::Formatter<W>) -> fmt::Result {
         let Answer {
@@ -35,7 +36,7 @@ impl fmt::Display for Numbers {
             found,
             key,
             value,
-        } = self.0;
+        } = forest::numbered(self.0);
         write!(f, "{number} {} {key} {value} ", u32::from(found))
     }
 }

@@ -1,7 +1,7 @@
 // The cursor table of document 01, run: tree 0 is B, tree 1 has one pair, tree 2 is empty.
 #![tactic(auto)]
 
-use forest::{Cursor, Moved, Reply};
+use forest::{Cursor, Moved};
 use lines::{Numbers, Words};
 use std::io;
 
@@ -14,23 +14,19 @@ const POOL: [u32; 74] = [
 
 // A line: number, found, key, value; then tree, size, the nodes, the places.
 fn show(rt: &impl Print, m: Moved) -> io::Result<()> {
-    let numbers = Numbers(forest::numbered(m.reply));
+    let Moved { reply, cursor } = m;
     let Cursor {
         tree,
         size,
         nodes,
         places,
-    } = m.cursor;
+    } = cursor;
     println!(rt;
-        "{numbers}| {tree} {size} | {}| {}",
+        "{}| {tree} {size} | {}| {}",
+        Numbers(reply),
         Words(&nodes),
         Words(&places)
     )
-}
-
-// A line: number, found, key, value.
-fn value(rt: &impl Print, r: Reply) -> io::Result<()> {
-    println!(rt; "{}", Numbers(forest::numbered(r)))
 }
 
 // A cursor of two levels.
@@ -66,7 +62,7 @@ fn moves(rt: &impl Print, ws: &[u32], c: Cursor) -> io::Result<()> {
 fn gets(rt: &impl Print, ws: &[u32]) -> io::Result<()> {
     println!(rt; "get 38, 40, 70 of B; 5 of tree 1; 5 of tree 2; 5 of tree 3")?;
     for (tree, key) in [(0, 38), (0, 40), (0, 70), (1, 5), (2, 5), (3, 5)] {
-        value(rt, map::get(ws, tree, key))?;
+        println!(rt; "{}", Numbers(map::get(ws, tree, key)))?;
     }
     Ok(())
 }
@@ -137,7 +133,7 @@ fn unsound(rt: &impl Print, ws: &[u32]) -> io::Result<()> {
     moves(rt, ws, at(3, 99, 3, 0, 1, 0))?;
     show(rt, map::first(ws, at(0, 99, 3, 0, 1, 0)))?;
     show(rt, map::seek(ws, at(0, 99, 3, 0, 1, 0), 10))?;
-    value(rt, map::get(ws, 3, 10))
+    println!(rt; "{}", Numbers(map::get(ws, 3, 10)))
 }
 
 fn main(rt: HostRuntime) -> io::Result<()> {
