@@ -139,6 +139,7 @@ fn right_end(rt: &impl Print, b: &mut [u32]) -> io::Result<()> {
     println!(rt; "{}", Words(b))
 }
 
+// Each key is taken out, the greatest first.
 fn from_the_right(rt: &impl Print, b: &mut [u32]) -> io::Result<()> {
     long_tree(rt, "1 to 36, emptied from the right", b)?;
     for key in (1..37).rev() {
@@ -147,6 +148,7 @@ fn from_the_right(rt: &impl Print, b: &mut [u32]) -> io::Result<()> {
     println!(rt; "{}", Words(b))
 }
 
+// Each key is taken out, the least first.
 fn from_the_left(rt: &impl Print, b: &mut [u32]) -> io::Result<()> {
     long_tree(rt, "1 to 36, emptied from the left", b)?;
     for key in 1..37 {
