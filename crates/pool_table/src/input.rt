@@ -2,77 +2,62 @@
 use std::io;
 use std::io::Read as _;
 
-// A number, and whether another one follows.
-#[derive(Clone, Copy)]
-pub struct Read {
-    pub value: u32,
-    pub more: bool,
-}
+// Bytes of a word and of a text at most.
+const LENGTH: usize = 200;
+// Digits of a number at most.
+const DIGITS: usize = 11;
 
-// The next byte, 0 where there is none left.
-fn byte(rt: &impl Input) -> io::Result<u8> {
-    let mut b = [0u8; 1];
+// The next byte, none at the end of the input and for a zero byte.
+fn byte(rt: &impl Input) -> io::Result<Option<u8>> {
+    let mut b = [0];
     rt.reader().read(&mut b)?;
-    Ok(b[0])
+    Ok(Some(b[0]).filter(|b| *b != 0))
 }
 
-// The next byte is passed over or copied: whether it is another one than `stop`.
-fn passed(rt: &(impl Input + Print), stop: u8, copy: bool) -> io::Result<bool> {
-    let b = byte(rt)?;
-    if copy {
-        rt.write_all(&[b])?;
-    }
-    Ok(b != stop)
-}
-
-// All up to the byte `stop` is passed over or copied, at most 200 bytes.
-fn pass(rt: &(impl Input + Print), stop: u8, copy: bool) -> io::Result<()> {
-    let mut left: u32 = 200;
-    while left > 0 && passed(rt, stop, copy)? {
-        left -= 1;
+// All up to the byte `stop` is passed over.
+fn pass(rt: &impl Input, stop: u8) -> io::Result<()> {
+    for _ in 0..LENGTH {
+        if byte(rt)? == Some(stop) {
+            break;
+        }
     }
     Ok(())
 }
 
-// The first letter of a word that a space ends, 0 at the end of the input.
-pub fn word(rt: &(impl Input + Print)) -> io::Result<u8> {
+// The first letter of a word that a space ends, none at the end of the input.
+pub fn word(rt: &impl Input) -> io::Result<Option<u8>> {
     let first = byte(rt)?;
-    pass(rt, b' ', false)?;
+    pass(rt, b' ')?;
     Ok(first)
 }
 
 // The rest of a line is passed over.
-pub fn skip(rt: &(impl Input + Print)) -> io::Result<()> {
-    pass(rt, b'\n', false)
+pub fn skip(rt: &impl Input) -> io::Result<()> {
+    pass(rt, b'\n')
 }
 
-// The rest of a line is copied to the output.
+// The rest of a line is copied to the output, past the end of the input as zeros.
 pub fn copy(rt: &(impl Input + Print)) -> io::Result<()> {
-    pass(rt, b'\n', true)
-}
-
-// A number with one more digit.
-fn longer(value: u32, digit: u8) -> u32 {
-    ((value as u64 * 10 + digit as u64) % 4294967296) as u32
-}
-
-// A number, and the byte after it.
-pub fn number(rt: &impl Input) -> io::Result<Read> {
-    let mut value: u32 = 0;
-    let mut left: u32 = 11;
-    while left > 0 {
-        let b = byte(rt)?;
-        if b < b'0' || b > b'9' {
-            return Ok(Read {
-                value: value,
-                more: b == b' ',
-            });
+    for _ in 0..LENGTH {
+        let b = byte(rt)?.unwrap_or(0);
+        rt.write_all(&[b])?;
+        if b == b'\n' {
+            break;
         }
-        value = longer(value, b - b'0');
-        left -= 1;
     }
-    Ok(Read {
-        value: value,
-        more: false,
-    })
+    Ok(())
+}
+
+// A number, and the byte that ends it, none where digits follow or the input ends.
+pub fn number(rt: &impl Input) -> io::Result<(u32, Option<u8>)> {
+    let mut value: u32 = 0;
+    for _ in 0..DIGITS {
+        match byte(rt)? {
+            Some(digit @ b'0'..=b'9') => {
+                value = value.wrapping_mul(10).wrapping_add(u32::from(digit - b'0'));
+            }
+            end => return Ok((value, end)),
+        }
+    }
+    Ok((value, None))
 }

@@ -11,158 +11,153 @@ mod six;
 
 ghost use Rattle.std.specs.Prelude.{◌≤◌};
 
+use forest::{MAX_NODES, MAX_TREES};
 use std::io;
+
+// The words of the largest pool.
+const ROOM: usize = MAX_TREES as usize + 17 * MAX_NODES as usize + 3;
+// Words that are kept of a pool of the input, and of all four.
+const PART: usize = 256;
+
+const KEPT: usize = 4 * PART;
+
+// A pool that the input names.
+#[derive(Clone, Copy)]
+enum Pool {
+    Fresh,
+    Pair,
+    Three,
+    Child,
+    Six,
+}
+
+impl From<u8> for Pool {
+    // The pool whose name begins with a letter.
+    fn from(letter: u8) -> Pool {
+        match letter {
+            b'f' => Pool::Fresh,
+            b'p' => Pool::Pair,
+            b't' => Pool::Three,
+            b's' => Pool::Six,
+            _ => Pool::Child,
+        }
+    }
+}
+
+impl Pool {
+    // Where its words are kept.
+    fn place(self) -> usize
+        ensures { result ≤ 768 }
+    {
+        match self {
+            Pool::Fresh => 0,
+            Pool::Pair => PART,
+            Pool::Three => 2 * PART,
+            Pool::Child | Pool::Six => 3 * PART,
+        }
+    }
+
+    // Writes it to words that are all 0.
+    fn write(self, ws: &mut [u32; ROOM], kept: &[u32; KEPT]) {
+        if let Pool::Six = self {
+            six::write(ws);
+        } else {
+            let from = self.place();
+            ws[..PART].copy_from_slice(&kept[from..from + PART]);
+        }
+    }
+}
 
 // A line: the answer, and what was judged.
 fn say(rt: &(impl Input + Print), sound: bool) -> io::Result<()> {
-    if sound {
-        print!(rt; "yes ")?;
-    } else {
-        print!(rt; "no  ")?;
-    }
+    print!(rt; "{}", if sound { "yes " } else { "no  " })?;
     input::copy(rt)
 }
 
-// The first words alone.
-fn say_first(rt: &(impl Input + Print), ws: [u32; 8739], long: usize) -> io::Result<()> {
-    if long <= 8739 {
-        say(rt, sound::check(&ws[..long]))?;
-    }
-    Ok(())
-}
-
-// Where a pool of the input is kept. Each has room for 256 words.
-fn place(pool: u8) -> usize
-    ensures { result ≤ 768 }
-{
-    match pool {
-        b'f' => 0,
-        b'p' => 256,
-        b't' => 512,
-        _ => 768,
-    }
-}
-
 // Words of the input, up to the end of the line, are kept from place `at` on.
-fn keep(rt: &impl Input, kept: &mut [u32; 1024], at: usize) -> io::Result<()> {
-    let mut i = at;
-    while i < 1024 {
-        let word = input::number(rt)?;
-        kept[i] = word.value;
-        if !word.more {
-            return Ok(());
+fn keep(rt: &impl Input, kept: &mut [u32; KEPT], at: usize) -> io::Result<()> {
+    for word in kept.iter_mut().skip(at) {
+        let (value, end) = input::number(rt)?;
+        *word = value;
+        if end != Some(b' ') {
+            break;
         }
-        i += 1;
     }
     Ok(())
 }
 
 // Words of a pool, as the input has them.
-fn written(rt: &(impl Input + Print), kept: &mut [u32; 1024]) -> io::Result<()> {
-    let pool = input::word(rt)?;
-    let from = input::number(rt)?;
-    keep(rt, kept, place(pool) + from.value as usize)
+fn written(rt: &impl Input, kept: &mut [u32; KEPT]) -> io::Result<()> {
+    let pool = input::word(rt)?.map_or(Pool::Child, Pool::from);
+    let (from, _) = input::number(rt)?;
+    keep(rt, kept, pool.place() + from as usize)
 }
 
-// The words that are kept from place a on.
-fn words(ws: &mut [u32; 8739], kept: &[u32; 1024], a: usize)
-    requires { a ≤ 768 }
-{
-    let mut i = 0;
-    while i < 256 {
-        ws[i] = kept[a + i];
-        i += 1;
-    }
-}
-
-// A pool, in words that are all 0.
-fn pool(ws: &mut [u32; 8739], kept: &[u32; 1024], pool: u8) {
-    if pool == b's' {
-        six::write(ws);
-    } else {
-        words(ws, kept, place(pool));
-    }
-}
-
-// Changes words of a pool as the input says, where its line goes on.
-fn change(rt: &impl Input, ws: &mut [u32; 8739], more: bool) -> io::Result<()> {
-    if !more {
-        return Ok(());
-    }
-    let mut left: u32 = 20;
-    while left > 0 {
-        let at = input::number(rt)?;
-        let word = input::number(rt)?;
-        let i = at.value as usize;
-        if i < 8739 {
-            ws[i] = word.value;
+// Changes words of a pool as the input says.
+fn change(rt: &impl Input, ws: &mut [u32; ROOM]) -> io::Result<()> {
+    for _ in 0..20 {
+        let (at, _) = input::number(rt)?;
+        let (value, end) = input::number(rt)?;
+        if let Some(word) = ws.get_mut(at as usize) {
+            *word = value;
         }
-        if !word.more {
-            return Ok(());
+        if end != Some(b' ') {
+            break;
         }
-        left -= 1;
     }
     Ok(())
 }
 
-// Judges a pool with some changes.
-fn judge(rt: &(impl Input + Print), kept: &[u32; 1024], name: u8) -> io::Result<()> {
-    let mut ws = [0u32; 8739];
-    pool(&mut ws, kept, name);
-    let long = input::number(rt)?;
-    change(rt, &mut ws, long.more)?;
-    say_first(rt, ws, long.value as usize)
+// Judges the first words of a pool, with some changes where the line goes on.
+fn judge(rt: &(impl Input + Print), kept: &[u32; KEPT], pool: Pool) -> io::Result<()> {
+    let mut ws = [0; ROOM];
+    pool.write(&mut ws, kept);
+    let (long, end) = input::number(rt)?;
+    if end == Some(b' ') {
+        change(rt, &mut ws)?;
+    }
+    if let Some(ws) = ws.get(..long as usize) {
+        say(rt, sound::check(ws))?;
+    }
+    Ok(())
 }
 
 // Formats some words, and judges them then.
 fn say_format(rt: &(impl Input + Print), ws: &mut [u32], trees: u32, nodes: u32) -> io::Result<()> {
     let reply = pool::format(ws, trees, nodes);
-    let number = forest::numbered(reply).number;
-    print!(rt; "{number}    ")?;
+    print!(rt; "{}    ", forest::numbered(reply).number)?;
     say(rt, sound::check(ws))
-}
-
-// The first words alone.
-fn say_format_first(
-    rt: &(impl Input + Print),
-    ws: &mut [u32],
-    trees: u32,
-    nodes: u32,
-    long: usize,
-) -> io::Result<()> {
-    if long <= ws.len() {
-        say_format(rt, &mut ws[..long], trees, nodes)?;
-    }
-    Ok(())
 }
 
 // Judges what `format` makes of words that are all 7.
 fn formatted(rt: &(impl Input + Print)) -> io::Result<()> {
-    let mut ws = [7u32; 8739];
-    let long = input::number(rt)?;
-    let trees = input::number(rt)?;
-    let nodes = input::number(rt)?;
-    say_format_first(rt, &mut ws, trees.value, nodes.value, long.value as usize)
+    let mut ws = [7; ROOM];
+    let (long, _) = input::number(rt)?;
+    let (trees, _) = input::number(rt)?;
+    let (nodes, _) = input::number(rt)?;
+    if let Some(ws) = ws.get_mut(..long as usize) {
+        say_format(rt, ws, trees, nodes)?;
+    }
+    Ok(())
 }
 
-// A line of the input: whether there was one.
-fn line(rt: &(impl Input + Print), kept: &mut [u32; 1024]) -> io::Result<bool> {
-    let kind = input::word(rt)?;
-    match kind {
-        0 => return Ok(false),
-        b'#' => input::skip(rt)?,
-        b'=' => written(rt, kept)?,
-        b'n' => formatted(rt)?,
-        _ => judge(rt, kept, kind)?,
+// The rest of a line of the input, whose first word begins with a letter.
+fn line(rt: &(impl Input + Print), kept: &mut [u32; KEPT], letter: u8) -> io::Result<()> {
+    match letter {
+        b'#' => input::skip(rt),
+        b'=' => written(rt, kept),
+        b'n' => formatted(rt),
+        _ => judge(rt, kept, Pool::from(letter)),
     }
-    Ok(true)
 }
 
 fn main(rt: HostRuntime) -> io::Result<()> {
-    let mut kept = [0u32; 1024];
-    let mut left: u32 = 200;
-    while left > 0 && line(&rt, &mut kept)? {
-        left -= 1;
+    let mut kept = [0; KEPT];
+    for _ in 0..200 {
+        let Some(letter) = input::word(&rt)? else {
+            break;
+        };
+        line(&rt, &mut kept, letter)?;
     }
     Ok(())
 }

@@ -5,10 +5,7 @@ ghost use Rattle.std.specs.Prelude.{◌+◌, ◌*◌, ◌≤◌, ◌<◌};
 fn entries(j: u32) -> u32
     ensures { result ≤ 3 }
 {
-    if j < 256 {
-        return 3;
-    }
-    1
+    if j < 256 { 3 } else { 1 }
 }
 
 // Word p of leaf j.
@@ -16,19 +13,12 @@ fn leaf_word(j: u32, p: u32) -> u32
     requires { j < 257 }
 {
     let s = entries(j);
-    if p == 0 {
-        return 32 + s;
+    match p {
+        0 => 32 + s,
+        1..=7 if p <= s => 10 * j + p,
+        8..=15 if p < 8 + s => j,
+        _ => 0,
     }
-    if p <= s {
-        return 10 * j + p;
-    }
-    if p < 8 {
-        return 0;
-    }
-    if p < 8 + s {
-        return j;
-    }
-    0
 }
 
 // The smallest key below the x-th node of a level.
@@ -48,19 +38,12 @@ fn lowest(level: u32, x: u32) -> u32
 fn inner_word(level: u32, c: u32, x: u32, n: u32, p: u32) -> u32
     requires { (c ≤ 4) × (x < 257) × (n < 512) }
 {
-    if p == 0 {
-        return 15 + c;
+    match p {
+        0 => 15 + c,
+        1..=7 if p < c => lowest(level, x + p),
+        8..=15 if p < 8 + c => n + p - 8,
+        _ => 0,
     }
-    if p < c {
-        return lowest(level, x + p);
-    }
-    if p < 8 {
-        return 0;
-    }
-    if p < 8 + c {
-        return n + p - 8;
-    }
-    0
 }
 
 // The children of the i-th of `count` nodes of a level: 4, and of the last one `last`.
@@ -68,10 +51,7 @@ fn children(i: u32, count: u32, last: u32) -> u32
     requires { (last ≤ 4) × (i < 1000) }
     ensures { result ≤ 4 }
 {
-    if i + 1 < count {
-        return 4;
-    }
-    last
+    if i + 1 < count { 4 } else { last }
 }
 
 // Word p of the i-th of `count` inner nodes of a level; `first` is the number of the first node of the level below.
@@ -83,57 +63,37 @@ fn level_word(level: u32, i: u32, count: u32, first: u32, p: u32) -> u32
 
 // Word p of the node after n others. The leaves come first, then the inner nodes level by level.
 fn node_word(n: u32, p: u32) -> u32 {
-    if n < 257 {
-        return leaf_word(n, p);
+    match n {
+        0..=256 => leaf_word(n, p),
+        257..=321 => level_word(0, n - 257, 65, 1, p),
+        322..=338 => level_word(1, n - 322, 17, 258, p),
+        339..=343 => level_word(2, n - 339, 5, 323, p),
+        344..=345 => level_word(3, n - 344, 2, 340, p),
+        346 => inner_word(4, 2, 0, 345, p),
+        _ => 0,
     }
-    if n < 322 {
-        return level_word(0, n - 257, 65, 1, p);
-    }
-    if n < 339 {
-        return level_word(1, n - 322, 17, 258, p);
-    }
-    if n < 344 {
-        return level_word(2, n - 339, 5, 323, p);
-    }
-    if n < 346 {
-        return level_word(3, n - 344, 2, 340, p);
-    }
-    if n == 346 {
-        return inner_word(4, 2, 0, 345, p);
-    }
-    0
 }
 
 // The word at a place of a pool of six levels: 257 leaves below 65, 17, 5, 2 and 1 inner nodes. All but the last of a level are as small
 // as they may be, and the last ones have one entry or one child; 165 nodes of 512 are free.
 fn word_at(at: usize) -> u32 {
-    if at == 0 {
-        return 1;
+    match at {
+        0 => 1,
+        1 => 347,
+        2 => 512,
+        3..=8194 => {
+            let i = (at - 3) as u32;
+            node_word(i / 16, i % 16)
+        }
+        8195 => 165,
+        8196..=8360 => (8708 - at) as u32,
+        _ => 0,
     }
-    if at == 1 {
-        return 347;
-    }
-    if at == 2 {
-        return 512;
-    }
-    if at < 8195 {
-        let i = (at - 3) as u32;
-        return node_word(i / 16, i % 16);
-    }
-    if at == 8195 {
-        return 165;
-    }
-    if at < 8361 {
-        return (8708 - at) as u32;
-    }
-    0
 }
 
 // Writes the pool, and zeros after it.
 pub fn write(ws: &mut [u32]) {
-    let mut i = 0;
-    while i < ws.len() {
-        ws[i] = word_at(i);
-        i += 1;
+    for (at, word) in ws.iter_mut().enumerate() {
+        *word = word_at(at);
     }
 }

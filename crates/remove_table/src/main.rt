@@ -2,82 +2,37 @@
 // trees emptied from each end.
 #![tactic(auto)]
 
-ghost use Rattle.std.specs.Prelude.{◌<◌, ◌≤◌};
-
-use forest::Cursor;
+use forest::{Cursor, Moved};
+use lines::{Numbers, Words};
 use std::io;
 
-fn number(rt: &impl Print, n: u32) -> io::Result<()> {
-    print!(rt; "{n} ")
-}
-
-fn head(rt: &impl Print, name: &[u8]) -> io::Result<()> {
-    rt.write_all(name)?;
-    rt.write_all(b"\n")
-}
-
-// Number, found as 0 or 1, key, value.
-fn answer(rt: &impl Print, r: forest::Reply) -> io::Result<()> {
-    let a = forest::numbered(r);
-    number(rt, a.number)?;
-    if a.found {
-        print!(rt; "1 ")?;
-    } else {
-        print!(rt; "0 ")?;
-    }
-    number(rt, a.key)?;
-    number(rt, a.value)?;
-    println!(rt)
-}
-
-// A level of a cursor: node and place.
-fn level(rt: &impl Print, c: Cursor, i: usize) -> io::Result<()>
-    requires { i < 16 }
-{
-    number(rt, c.nodes[i])?;
-    number(rt, c.places[i])
-}
-
-// The size of a cursor, and its first three nodes and places.
-fn place(rt: &impl Print, c: Cursor) -> io::Result<()> {
-    number(rt, c.size)?;
-    level(rt, c, 0)?;
-    level(rt, c, 1)?;
-    level(rt, c, 2)?;
-    println!(rt)
-}
-
-// An answer, and where the cursor is.
-fn moved(rt: &impl Print, m: forest::Moved) -> io::Result<Cursor> {
-    let r = m.reply;
-    let c = m.cursor;
-    answer(rt, r)?;
-    place(rt, c)?;
-    Ok(c)
-}
-
-// All words, in a line.
-fn show(rt: &impl Print, ws: &[u32]) -> io::Result<()> {
-    let mut i: usize = 0;
-    while i < ws.len() {
-        number(rt, ws[i])?;
-        i += 1;
-    }
-    println!(rt)
-}
-
 // A cursor of tree 0, off the end.
-fn start() -> Cursor {
-    Cursor {
-        tree: 0,
-        size: 0,
-        nodes: [0u32; 16],
-        places: [0u32; 16],
-    }
+const START: Cursor = Cursor {
+    tree: 0,
+    size: 0,
+    nodes: [0; 16],
+    places: [0; 16],
+};
+
+// A line: number, found as 0 or 1, key, value; then a line: the size of the cursor, and its first three nodes and places.
+fn moved(rt: &impl Print, m: Moved) -> io::Result<Cursor> {
+    let Moved { reply, cursor } = m;
+    let Cursor {
+        size,
+        nodes,
+        places,
+        ..
+    } = cursor;
+    println!(rt; "{}", Numbers(reply))?;
+    println!(rt;
+        "{size} {} {} {} {} {} {} ",
+        nodes[0], places[0], nodes[1], places[1], nodes[2], places[2]
+    )?;
+    Ok(cursor)
 }
 
 fn seek(rt: &impl Print, ws: &[u32], key: u32) -> io::Result<Cursor> {
-    moved(rt, map::seek(ws, start(), key))
+    moved(rt, map::seek(ws, START, key))
 }
 
 // Seek, then remove at the cursor.
@@ -86,148 +41,140 @@ fn take(rt: &impl Print, ws: &mut [u32], key: u32) -> io::Result<Cursor> {
     moved(rt, map::remove_at(ws, c))
 }
 
-fn put(ws: &mut [u32], key: u32) {
-    map::put(ws, 0, key, 7);
+// A removal by key.
+fn remove(rt: &impl Print, ws: &mut [u32], key: u32) -> io::Result<()> {
+    println!(rt; "{}", Numbers(map::remove(ws, 0, key)))
 }
 
-// Keys `step`, twice `step` and so on are put, `n` of them.
-fn rising(ws: &mut [u32], step: u32, n: u32)
-    requires { (step ≤ 10) × (n ≤ 36) }
-{
-    let mut key: u32 = 0;
-    let mut left = n;
-    while left > 0 {
-        key += step;
-        put(ws, key);
-        left -= 1;
-    }
+fn put(ws: &mut [u32], key: u32) {
+    map::put(ws, 0, key, 7);
 }
 
 // Tree B: 10 to 70 and 35, in three nodes.
 fn tree_b(ws: &mut [u32]) {
     pool::format(ws, 1, 3);
-    rising(ws, 10, 7);
+    for key in (10..80).step_by(10) {
+        put(ws, key);
+    }
     put(ws, 35);
 }
 
 // Keys 1 to 36, in 12 nodes, under a head.
-fn long_tree(rt: &impl Print, name: &[u8], ws: &mut [u32]) -> io::Result<()> {
-    head(rt, name)?;
+fn long_tree(rt: &impl Print, name: &str, ws: &mut [u32]) -> io::Result<()> {
+    println!(rt; "{name}")?;
     pool::format(ws, 1, 12);
-    rising(ws, 1, 36);
-    Ok(())
-}
-
-// `n` keys from `from` on, each `step` further, modulo 37, are taken out; each answer is told.
-fn emptied(rt: &impl Print, ws: &mut [u32], from: u32, step: u32, n: u32) -> io::Result<()>
-    requires { (from < 37) × (step < 37) }
-{
-    let mut key = from;
-    let mut left = n;
-    while left > 0 {
-        answer(rt, map::remove(ws, 0, key))?;
-        key = (key + step) % 37;
-        left -= 1;
+    for key in 1..37 {
+        put(ws, key);
     }
     Ok(())
 }
 
 // A key is taken out of B.
-fn trial(rt: &impl Print, name: &[u8], key: u32) -> io::Result<()> {
-    head(rt, name)?;
-    let mut b = [0u32; 55];
+fn trial(rt: &impl Print, name: &str, key: u32) -> io::Result<()> {
+    println!(rt; "{name}")?;
+    let mut b = [0; 55];
     tree_b(&mut b);
     take(rt, &mut b, key)?;
-    show(rt, &b)
+    println!(rt; "{}", Words(&b))
 }
 
 fn trials(rt: &impl Print) -> io::Result<()> {
-    trial(rt, b"P5: B, 10 removed", 10)?;
-    trial(rt, b"P6: B, 70 removed", 70)?;
-    trial(rt, b"P7: B, 40 removed", 40)
+    trial(rt, "P5: B, 10 removed", 10)?;
+    trial(rt, "P6: B, 70 removed", 70)?;
+    trial(rt, "P7: B, 40 removed", 40)
 }
 
 fn after_a_put(rt: &impl Print) -> io::Result<()> {
-    head(rt, b"P8: B with 80 put, 20 removed")?;
-    let mut b = [0u32; 55];
+    println!(rt; "P8: B with 80 put, 20 removed")?;
+    let mut b = [0; 55];
     tree_b(&mut b);
     put(&mut b, 80);
     take(rt, &mut b, 20)?;
-    show(rt, &b)
+    println!(rt; "{}", Words(&b))
 }
 
 fn and_next(rt: &impl Print) -> io::Result<()> {
-    head(rt, b"P9: B, 38 sought, removed there, next")?;
-    let mut b = [0u32; 55];
+    println!(rt; "P9: B, 38 sought, removed there, next")?;
+    let mut b = [0; 55];
     tree_b(&mut b);
     let c = take(rt, &mut b, 38)?;
     moved(rt, map::next(&b, c))?;
-    show(rt, &b)
+    println!(rt; "{}", Words(&b))
 }
 
 fn one_pair(rt: &impl Print) -> io::Result<()> {
-    head(rt, b"P10: one pair, removed, and removed again")?;
-    let mut b = [0u32; 38];
+    println!(rt; "P10: one pair, removed, and removed again")?;
+    let mut b = [0; 38];
     pool::format(&mut b, 1, 2);
     put(&mut b, 9);
-    emptied(rt, &mut b, 9, 0, 2)?;
-    show(rt, &b)
+    remove(rt, &mut b, 9)?;
+    remove(rt, &mut b, 9)?;
+    println!(rt; "{}", Words(&b))
 }
 
 fn merges(rt: &impl Print, b: &mut [u32]) -> io::Result<()> {
     long_tree(
         rt,
-        b"1 to 36, 13 removed: a merge across parents, a parent's merge, a shrunken root",
+        "1 to 36, 13 removed: a merge across parents, a parent's merge, a shrunken root",
         b,
     )?;
-    show(rt, b)?;
+    println!(rt; "{}", Words(b))?;
     take(rt, b, 13)?;
-    show(rt, b)
+    println!(rt; "{}", Words(b))
 }
 
 fn right_end(rt: &impl Print, b: &mut [u32]) -> io::Result<()> {
     long_tree(
         rt,
-        b"1 to 36, 36 down to 17 removed: a right end that empties",
+        "1 to 36, 36 down to 17 removed: a right end that empties",
         b,
     )?;
-    emptied(rt, b, 36, 36, 16)?;
-    show(rt, b)?;
-    emptied(rt, b, 20, 36, 4)?;
-    show(rt, b)
+    for key in (21..37).rev() {
+        remove(rt, b, key)?;
+    }
+    println!(rt; "{}", Words(b))?;
+    for key in (17..21).rev() {
+        remove(rt, b, key)?;
+    }
+    println!(rt; "{}", Words(b))
 }
 
-// Each key is taken out, from `from` on.
-fn all(rt: &impl Print, name: &[u8], b: &mut [u32], from: u32, step: u32) -> io::Result<()>
-    requires { (from < 37) × (step < 37) }
-{
-    long_tree(rt, name, b)?;
-    emptied(rt, b, from, step, 36)?;
-    show(rt, b)
+// Each key is taken out, the greatest first.
+fn from_the_right(rt: &impl Print, b: &mut [u32]) -> io::Result<()> {
+    long_tree(rt, "1 to 36, emptied from the right", b)?;
+    for key in (1..37).rev() {
+        remove(rt, b, key)?;
+    }
+    println!(rt; "{}", Words(b))
+}
+
+// Each key is taken out, the least first.
+fn from_the_left(rt: &impl Print, b: &mut [u32]) -> io::Result<()> {
+    long_tree(rt, "1 to 36, emptied from the left", b)?;
+    for key in 1..37 {
+        remove(rt, b, key)?;
+    }
+    println!(rt; "{}", Words(b))
 }
 
 fn long_trees(rt: &impl Print) -> io::Result<()> {
-    let mut b = [0u32; 208];
+    let mut b = [0; 208];
     merges(rt, &mut b)?;
     right_end(rt, &mut b)?;
-    all(rt, b"1 to 36, emptied from the right", &mut b, 36, 36)?;
-    all(rt, b"1 to 36, emptied from the left", &mut b, 1, 1)
+    from_the_right(rt, &mut b)?;
+    from_the_left(rt, &mut b)
 }
 
 fn refusals(rt: &impl Print) -> io::Result<()> {
-    head(
-        rt,
-        b"tree 1 of one tree; a cursor of size 17; words that are not sound",
-    )?;
-    let mut b = [0u32; 55];
+    println!(rt; "tree 1 of one tree; a cursor of size 17; words that are not sound")?;
+    let mut b = [0; 55];
     tree_b(&mut b);
-    answer(rt, map::remove(&mut b, 1, 10))?;
-    let mut c = start();
-    c.size = 17;
+    println!(rt; "{}", Numbers(map::remove(&mut b, 1, 10)))?;
+    let c = Cursor { size: 17, ..START };
     moved(rt, map::remove_at(&mut b, c))?;
-    show(rt, &b)?;
+    println!(rt; "{}", Words(&b))?;
     b[0] = 2;
-    answer(rt, map::remove(&mut b, 0, 10))?;
+    remove(rt, &mut b, 10)?;
     moved(rt, map::remove_at(&mut b, c))?;
     Ok(())
 }
