@@ -1,7 +1,7 @@
 // Paths from the root of a tree to a leaf, as the crate's path.rs has them: going down, and where a path branches. A cursor is taken by value and handed back.
 #![tactic(auto)]
 
-ghost use Rattle.std.specs.Prelude.{◌≡◌, ◌+◌, ◌-◌, ◌*◌, ◌≤◌, ◌<◌, [], length, take, get_or};
+ghost use Rattle.std.specs.Prelude.{◌≡◌, ◌+◌, ◌-◌, ◌*◌, ◌≤◌, ◌<◌, [], length, take, drop, get_or};
 ghost use Rattle.forest.specs.Sizes.{most_trees, most_levels};
 ghost use Rattle.forest.specs.Lists.{pad};
 ghost use Rattle.forest.specs.Slices.{KeysRise};
@@ -43,44 +43,38 @@ pub fn off_end(tree: u32) -> Cursor
 
 // One level more.
 #[tactic(auto, unfolding(crate::specs::Levels::pushed))]
-pub fn push(c: Cursor, node: u32, place: usize) -> Cursor
+pub fn push(mut c: Cursor, node: u32, place: usize) -> Cursor
     requires { (c.size < 16) × (place < 16) }
     ensures { result ≡ pushed c node place }
 {
     let l = c.size as usize;
-    let mut out = c;
-    out.nodes[l] = node;
-    out.places[l] = place as u32;
-    out.size = c.size + 1;
-    out
+    c.nodes[l] = node;
+    c.places[l] = place as u32;
+    c.size += 1;
+    c
 }
 
-// The first l words, and zeros.
-fn front(xs: [u32; 16], l: usize) -> [u32; 16]
-    requires { l ≤ 16 }
-    ensures { result ≡ pad most_levels (take l xs) }
+// The l words of xs from place `from` on, then zeros.
+pub fn part(xs: [u32; 16], from: usize, l: usize) -> [u32; 16]
+    requires { from + l ≤ 16 }
+    ensures { result ≡ pad most_levels (take l (drop from xs)) }
 {
     let mut out = [0u32; 16];
-    let mut i: usize = 0;
-    while i < l {
-        out[i] = xs[i];
-        i += 1;
-    }
+    out[..l].copy_from_slice(&xs[from..from + l]);
     out
 }
 
 // The first l levels alone.
+#[tactic(auto, unfolding(crate::specs::Levels::cut_at))]
 pub fn cut(c: Cursor, l: usize) -> Cursor
     requires { l ≤ 16 }
     ensures { result ≡ cut_at c l }
 {
-    let ns = c.nodes;
-    let ps = c.places;
     Cursor {
         tree: c.tree,
         size: l as u32,
-        nodes: front(ns, l),
-        places: front(ps, l),
+        nodes: part(c.nodes, 0, l),
+        places: part(c.places, 0, l),
     }
 }
 
