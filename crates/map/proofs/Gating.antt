@@ -5,6 +5,7 @@ use mathlib.Core.Bool.{Bool, true, false, true≢false}
 use mathlib.Core.Option.{Option, none, some}
 use Prim.Native.Nat.{ℕ, ◌≤◌, ◌<◌}
 use native.Mathlib.Omega.{arith}
+use Rattle.std.specs.Prelude.{Some}
 use lib.ListN.{length, get_or}
 use borrow.Author.Tests.{eq-eqb, ne_eqb, le-leb}
 use Rattle.forest.specs.Sizes.{leaf_least}
@@ -19,9 +20,7 @@ use Rattle.forest.specs.Cursors.{leaves, pair_at, next, spot_of, path_in, Move, 
 use Rattle.forest.specs.Promises.{Calls, Moves}
 use Rattle.forest.proofs.PromiseLaws.{sound_length, calls_unsound, moves_unsound}
 use Rattle.forest.proofs.CursorCalls.{move-refused, move-done}
-use Rattle.path.specs.Cores.{Ready, Of}
-use Rattle.path.specs.declared.Look.{Look}
-use Rattle.path.specs.declared.Look.TheVariants.{Pair}
+use Rattle.path.specs.Cores.{Ready, Of, Look}
 use Rattle.stand.specs.Runs.{Tells}
 use Rattle.sound.specs.Exact.{Exact}
 use Rattle.map.specs.Gates.{Gates, Admits, Stood, Told, held_at}
@@ -110,8 +109,8 @@ module _ (ws : List ℕ) (c : Cursor) where
     }
 
 -- the value of a key
-pub held_here : (l : Look) (k v key : ℕ) → l ≡ Pair k v → k ≡ key → reply.Value v ≡ held_at l key
+pub held_here : (l : Look) (k v key : ℕ) → l ≡ Some (k, v) → k ≡ key → reply.Value v ≡ held_at l key
 held_here l k v key e q = rw (e, eq-eqb k key q)
 
-pub held_other : (l : Look) (k v key : ℕ) → l ≡ Pair k v → (k ≡ key → ⊥) → reply.Nothing ≡ held_at l key
+pub held_other : (l : Look) (k v key : ℕ) → l ≡ Some (k, v) → (k ≡ key → ⊥) → reply.Nothing ≡ held_at l key
 held_other l k v key e q = rw (e, ne_eqb k key q)

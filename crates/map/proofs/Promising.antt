@@ -27,8 +27,7 @@ use Rattle.forest.proofs.Six.{six_levels}
 use Rattle.forest.proofs.CursorLaws.{spot_path}
 use Rattle.forest.proofs.StandLaws.{path_in_lem, length_path, stands_yes, yes_stands}
 use Rattle.forest.proofs.CursorCalls.{move-refused, move-done, fits_next, fits_start}
-use Rattle.path.specs.Cores.{Ready, Of, At, Standing, Goes, Sees, look_of}
-use Rattle.path.specs.declared.Look.{Look}
+use Rattle.path.specs.Cores.{Ready, Of, At, Standing, Goes, Sees, look_of, Look}
 use Rattle.path.proofs.Roots.{trees_are}
 use Rattle.path.proofs.Made.{fits-seek, gone_tree, gone_at}
 use Rattle.stand.specs.Runs.{Tells}

@@ -5,6 +5,8 @@ use mathlib.Core.Bool.{false}
 use mathlib.Core.Option.{Option, none, some}
 use Prim.Native.Nat.{ℕ, ◌+◌, ◌≤◌, ◌<◌}
 use native.Mathlib.Omega.{arith}
+use Rattle.std.specs.Prelude.{Some, None}
+use Rattle.std.proofs.lemmas.Option.{none-some, same_Some}
 use lib.ListN.{length, get_or}
 use Rattle.forest.specs.Sizes.{leaf_least, most_levels}
 use lib.Dec.{eqb}
@@ -21,9 +23,7 @@ use Rattle.forest.proofs.TreeLaws.{pairs_get}
 use Rattle.forest.proofs.PoolLaws.{good_at}
 use Rattle.forest.proofs.CallLaws.{remove_absent}
 use Rattle.forest.proofs.RemoveLaws.{Removes as Gone, remove_goes, remove_none}
-use Rattle.path.specs.Cores.{Ready, Of, At, Standing, Sees, Ends, Looks, look_in, look_of}
-use Rattle.path.specs.declared.Look.{Look}
-use Rattle.path.specs.declared.Look.TheVariants.{Pair, Nothing}
+use Rattle.path.specs.Cores.{Ready, Of, At, Standing, Sees, Ends, Looks, look_in, look_of, Look}
 use Rattle.path.proofs.Roots.{trees_are}
 use Rattle.path.proofs.Made.{fits-seek, gone_tree, gone_standing, gone_ready}
 use Rattle.path.proofs.Foots.{looks_empty, ends_in, ends-place, ends_looks}
@@ -34,25 +34,22 @@ use Rattle.map.specs.Gates.{held_at}
 use Rattle.map.proofs.Promising.{of, own_at, free_reads, tree_there, seek-held}
 
 -- a look and the pair there
-look_some : (o : Option Item) (k v : ℕ) → Pair k v ≡ look_of o → o ≡ some (k, v)
-look_some none k v e = absurd (let z : ◌≡◌ {A = ℕ} 0 1 = cc in omega arith)
-look_some (some y) k v e =
-    let a : k ≡ y.0 = cc in
-    let b : v ≡ y.1 = cc in
-    λ i. some (sym a i, sym b i)
+look_some : (o : Option Item) (k v : ℕ) → Some (k, v) ≡ look_of o → o ≡ some (k, v)
+look_some none k v e = absurd (none-some (k, v) (sym e))
+look_some (some y) k v e = ap some (sym (same_Some (k, v) y e))
 
-look_none : (o : Option Item) → Nothing ≡ look_of o → o ≡ none
+look_none : (o : Option Item) → None ≡ look_of o → o ≡ none
 look_none none e = refl
-look_none (some y) e = absurd (let z : ◌≡◌ {A = ℕ} 0 1 = cc in omega arith)
+look_none (some y) e = absurd (none-some y e)
 
 module _ (ws : List ℕ) (t : ℕ) (c : Cursor) (y : Ready ws t c.tree) (z : Standing ws c) (l : Look) (x : Sees ws c l) where
   -- the pair at the spot that the definition reads off the cursor
-  pair_there : (k v : ℕ) → l ≡ Pair k v → (p : Pool) → Of ws p → pair_at (leaves (tree_of p c.tree)) (spot_of (tree_of p c.tree) (path_in c)) ≡ some (k, v)
+  pair_there : (k v : ℕ) → l ≡ Some (k, v) → (p : Pool) → Of ws p → pair_at (leaves (tree_of p c.tree)) (spot_of (tree_of p c.tree) (path_in c)) ≡ some (k, v)
   pair_there k v e p o =
       look_some (pair_at (leaves (tree_of p c.tree)) (spot_of (tree_of p c.tree) (path_in c))) k v
       (sym e ∙ x.sees p (spot_of (tree_of p c.tree) (path_in c)) o (own_at ws c z p o))
 
-  none_there : l ≡ Nothing → (p : Pool) → Of ws p → pair_at (leaves (tree_of p c.tree)) (spot_of (tree_of p c.tree) (path_in c)) ≡ none
+  none_there : l ≡ None → (p : Pool) → Of ws p → pair_at (leaves (tree_of p c.tree)) (spot_of (tree_of p c.tree) (path_in c)) ≡ none
   none_there e p o =
       look_none (pair_at (leaves (tree_of p c.tree)) (spot_of (tree_of p c.tree) (path_in c)))
       (sym e ∙ x.sees p (spot_of (tree_of p c.tree) (path_in c)) o (own_at ws c z p o))
@@ -61,7 +58,7 @@ module _ (ws : List ℕ) (t : ℕ) (c : Cursor) (y : Ready ws t c.tree) (z : Sta
   on_pair p off u h a e = absurd (let w : ◌≡◌ {A = ℕ} 0 1 = cc in omega arith)
   on_pair p (on j i) u h a e = record { there = h; leaf = j; entry = i; pair = u; fits = a.fits; same = a.same; holds = e }
 
-  pub ask_remove : (k v : ℕ) → l ≡ Pair k v → AskRemove ws t c
+  pub ask_remove : (k v : ℕ) → l ≡ Some (k, v) → AskRemove ws t c
   ask_remove k v e = record {
     sound = y.sound;
     trees = λ p w b. trees_are ws t c.tree y p (of ws p w b);
@@ -69,7 +66,7 @@ module _ (ws : List ℕ) (t : ℕ) (c : Cursor) (y : Ready ws t c.tree) (z : Sta
         on_pair p (spot_of (tree_of p c.tree) (path_in c)) (k, v) (tree_there ws t c.tree y p (of ws p w b)) (own_at ws c z p (of ws p w b)) (pair_there k v e p (of ws p w b));
   }
 
-  pub removed_moves : (k v : ℕ) → l ≡ Pair k v → (vs : List ℕ) (d : Cursor) → Removes ws vs c d → Moves leaf_least to_remove c ws vs (reply.Value v) d
+  pub removed_moves : (k v : ℕ) → l ≡ Some (k, v) → (vs : List ℕ) (d : Cursor) → Removes ws vs c d → Moves leaf_least to_remove c ws vs (reply.Value v) d
   removed_moves k v e vs d r = record {
     sound_words = r.words;
     sound_answer = λ p w b.
@@ -80,7 +77,7 @@ module _ (ws : List ℕ) (t : ℕ) (c : Cursor) (y : Ready ws t c.tree) (z : Sta
     unsound_cursor = λ n. absurd (n y.sound);
   }
 
-  pub nothing_moves : length c.nodes ≡ most_levels → length c.places ≡ most_levels → l ≡ Nothing → Moves leaf_least to_remove c ws ws reply.Nothing c
+  pub nothing_moves : length c.nodes ≡ most_levels → length c.places ≡ most_levels → l ≡ None → Moves leaf_least to_remove c ws ws reply.Nothing c
   nothing_moves ln lp e =
       let r : (p : Pool) → Of ws p → move to_remove c p ≡ record { answer = reply.Nothing; cursor = c; pool = p } =
       λ p o. remove_none leaf_least (omega arith) (omega arith) p o.formed c ln lp (free_reads ws t c y z to_remove refl p o) (none_there e p o) in
@@ -95,7 +92,7 @@ module _ (ws : List ℕ) (t : ℕ) (c : Cursor) (y : Ready ws t c.tree) (z : Sta
 
 -- By key
 
-pub held_nothing : (l : Look) (k : ℕ) → l ≡ Nothing → held_at l k ≡ reply.Nothing
+pub held_nothing : (l : Look) (k : ℕ) → l ≡ None → held_at l k ≡ reply.Nothing
 held_nothing l k e = rw e
 
 has_none : (k : ℕ) (xs : List Item) → lookup k xs ≡ none → has k xs ≡ false
@@ -122,12 +119,12 @@ module _ (ws : List ℕ) (t tree k : ℕ) (y : Ready ws t tree) (l : Look) (o : 
   stands_there : Standing ws d
   stands_there = gone_standing (seek k) (fits-seek k) ws t tree d y o.goes
 
-  ask_found : (h v : ℕ) → l ≡ Pair h v → AskRemove ws t d
+  ask_found : (h v : ℕ) → l ≡ Some (h, v) → AskRemove ws t d
   ask_found h v e = ask_remove ws t d ready_there stands_there l o.sees h v e
 
-  pub removed-calls : (h v : ℕ) → l ≡ Pair h v → h ≡ k → (vs : List ℕ) → RemovesKey ws vs tree k → Calls leaf_least (remove tree k) ws vs (reply.Value v)
+  pub removed-calls : (h v : ℕ) → l ≡ Some (h, v) → h ≡ k → (vs : List ℕ) → RemovesKey ws vs tree k → Calls leaf_least (remove tree k) ws vs (reply.Value v)
   removed-calls h v e i vs q =
-      let e' : l ≡ Pair k v = e ∙ ap (λ (n : ℕ). Pair n v) i in
+      let e' : l ≡ Some (k, v) = e ∙ ap (λ (n : ℕ). Some (n, v)) i in
       let goes : (p : Pool) (w : WellFormed leaf_least p) → encode p ≡ ws → Gone p d (k, v) (move to_remove d p) =
       λ p w b. remove_goes leaf_least (omega arith) (omega arith) p w d (k, v) (free_reads ws t d ready_there stands_there to_remove refl p (of ws p w b))
       (pair_there ws t d ready_there stands_there l o.sees k v e' p (of ws p w b)) in
@@ -159,7 +156,7 @@ module _ (ws : List ℕ) (t tree k r : ℕ) (y : Ready ws t tree) (w : r ≡ get
   root_word = let z : 1 + tree ≡ tree + 1 = omega arith in rw z w
 
   pub empty_calls : r ≡ 0 → Calls leaf_least (remove tree k) ws ws reply.Nothing
-  empty_calls z = absent_calls ws t tree k y Nothing (looks_empty ws t tree y k (sym root_word ∙ z)) refl
+  empty_calls z = absent_calls ws t tree k y None (looks_empty ws t tree y k (sym root_word ∙ z)) refl
 
   pub root_some : (r ≡ 0 → ⊥) → 1 ≤ get_or ws (1 + tree) 0
   root_some z = rw (← root_word) (omega arith)
@@ -169,7 +166,7 @@ module _ (ws : List ℕ) (t tree k n e : ℕ) (y : Ready ws t tree) (d : Ends k 
   pub place_few : e ≤ 7
   place_few = omega (arith, ends-place ws t tree y k n e d, (ends_in ws t tree y k n e d).most)
 
-  pub ask_key : (h v : ℕ) → look_in ws t n e ≡ Pair h v → AskKey ws t tree k n e
+  pub ask_key : (h v : ℕ) → look_in ws t n e ≡ Some (h, v) → AskKey ws t tree k n e
   ask_key h v q =
       let o = ends_looks ws t tree y k n e d in
       record {

@@ -1,5 +1,5 @@
 -- DEFINITIONS. The first refusals of every call, and what a value at a look is
-use Rattle.std.specs.Prelude.{◌≡◌, List, Bool, true, cond, ℕ, ◌<◌, get_or, eqb}
+use Rattle.std.specs.Prelude.{◌≡◌, List, Some, None, Bool, true, cond, ℕ, ◌<◌, get_or, eqb}
 use Rattle.std.proofs.Math.Option.{Option, some}
 use Rattle.forest.specs.Sizes.{leaf_least}
 use Rattle.forest.specs.Pools.{Pool, WellFormed, Sound, encode, gate}
@@ -9,9 +9,7 @@ use Rattle.forest.specs.declared.Cursor.{Cursor}
 use Rattle.forest.specs.declared.Refusal.{Refusal}
 use Rattle.forest.specs.declared.Reply.{Reply}
 use Rattle.forest.specs.declared.Reply.TheVariants as reply
-use Rattle.path.specs.Cores.{Ready, Of, Standing}
-use Rattle.path.specs.declared.Look.{Look}
-use Rattle.path.specs.declared.Look.TheVariants.{Pair, Nothing}
+use Rattle.path.specs.Cores.{Ready, Of, Standing, Look}
 use Rattle.map.specs.declared.Pass.{Pass}
 use Rattle.map.specs.declared.Pass.TheVariants.{Open, Shut}
 
@@ -39,5 +37,5 @@ pub record Told (ws : List ℕ) (c : Cursor) (r : Bool) : Type 0 where
 
 -- the value of a key where it would be
 abbrev pub held_at : Look → ℕ → Reply
-held_at (Pair k v) key = cond (eqb k key) (reply.Value v) reply.Nothing
-held_at Nothing key = reply.Nothing
+held_at (Some (k, v)) key = cond (eqb k key) (reply.Value v) reply.Nothing
+held_at None key = reply.Nothing

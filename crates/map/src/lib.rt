@@ -10,7 +10,6 @@ ghost use Rattle.forest.specs.Promises.{Calls, Moves};
 ghost use Rattle.map.specs.Gates.{Gates, Admits, Stood, Told, held_at};
 
 use forest::{Cursor, Moved, Refusal, Reply};
-use path::Look;
 
 // Whether a call may go on, with the number of trees.
 #[derive(Clone, Copy)]
@@ -49,18 +48,12 @@ fn admit(ws: &[u32], at: Cursor) -> Pass
 }
 
 // The value of a key, from a look at its place.
-fn held(look: Look, key: u32) -> Reply
+fn held(look: Option<(u32, u32)>, key: u32) -> Reply
     ensures { result ≡ held_at look key }
 {
     match look {
-        Look::Pair(k, value) => {
-            if k == key {
-                Reply::Value(value)
-            } else {
-                Reply::Nothing
-            }
-        }
-        Look::Nothing => Reply::Nothing,
+        Some((k, value)) if k == key => Reply::Value(value),
+        _ => Reply::Nothing,
     }
 }
 
@@ -117,7 +110,7 @@ pub fn sound_remove(ws: &mut [u32], tree: u32, key: u32) -> Reply
             let n = foot.node;
             let at = foot.place;
             let look = path::look_in(ws, t, n, at);
-            let Look::Pair(k, value) = look else {
+            let Some((k, value)) = look else {
                 return Reply::Nothing;
             };
             if k != key {
@@ -205,7 +198,7 @@ pub fn sound_remove_at(ws: &mut [u32], at: Cursor) -> Moved
 {
     let t = pool::tree_count(ws);
     let look = path::look_at(ws, t, at);
-    let Look::Pair(_, value) = look else {
+    let Some((_, value)) = look else {
         return Moved {
             reply: Reply::Nothing,
             cursor: at,

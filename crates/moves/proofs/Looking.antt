@@ -2,13 +2,13 @@
 use mathlib.Core.Path.{◌≡◌, refl, sym, ap, ◌∙◌}
 use mathlib.Core.List.{List}
 use mathlib.Core.Bool.{true, false, true≢false}
-use mathlib.Core.Option.{Option, none, some}
 use Prim.Native.Nat.{ℕ, zero, suc, ◌-◌, ◌≤◌}
 use native.Mathlib.Omega.{arith}
 use lib.ListN.{get_or}
 use lib.Dec.{ltb, eqb}
-use borrow.Author.Tests.{lt-ltb, le-ltb, eq-eqb, ne_eqb, eqb-true, ltb-true}
-use Rattle.forest.specs.Pairs.{Item}
+use Rattle.std.specs.Prelude.{Option, Some, None, is_none}
+use Rattle.std.proofs.lemmas.Option.{none-some}
+use borrow.Author.Tests.{eq-eqb, eqb-true, ltb-true}
 use Rattle.forest.specs.Rows.{Row}
 use Rattle.forest.specs.Pools.{Pool, tree_of}
 use Rattle.forest.specs.Cursors.{Spot, off, on, leaves, pair_at, prev, prev_pair, path_of, cursor_at}
@@ -17,64 +17,27 @@ use Rattle.forest.specs.declared.Cursor.{Cursor}
 use Rattle.forest.specs.declared.Moved.{Moved}
 use Rattle.forest.specs.declared.Reply.TheVariants as reply
 use Rattle.forest.proofs.ListLaws.{is, isnt, test, tests}
-use Rattle.path.specs.Levels.{left_branch, no_branch}
-use Rattle.path.specs.declared.Branch.{Branch}
-use Rattle.path.specs.declared.Branch.TheVariants as branch
-use Rattle.path.specs.Cores.{Ready, Of, At, Sees, look_of}
-use Rattle.path.specs.declared.Look.{Look}
-use Rattle.path.specs.declared.Look.TheVariants.{Pair, Nothing}
-use Rattle.path.proofs.Branches.{none_at}
+use Rattle.path.specs.Levels.{left_branch}
+use Rattle.path.specs.Cores.{Ready, Of, At}
 use Rattle.path.proofs.Seats.{off_is, Seat, seat, leaf_place}
 use Rattle.moves.specs.Moves.{at_first, Steps, Seen, Back}
 use Rattle.moves.proofs.Neighbours.{no_left, prev_left}
 use Rattle.moves.proofs.Moving.{moved_tree, moved_at}
 use Rattle.forest.proofs.CursorCalls.{fits-prev}
 
--- a look as an answer
-pub pair_told : (o : Option Item) (k v : ℕ) → Pair k v ≡ look_of o → reply.Pair k v ≡ told o
-pair_told none k v e = absurd (let z : ◌≡◌ {A = ℕ} 0 1 = cc in omega arith)
-pair_told (some x) k v e =
-    let a : k ≡ x.0 = cc in
-    let b : v ≡ x.1 = cc in
-    λ i. reply.Pair (a i) (b i)
-
-pub none_told : (o : Option Item) → Nothing ≡ look_of o → reply.Nothing ≡ told o
-none_told none e = refl
-none_told (some x) e = absurd (let z : ◌≡◌ {A = ℕ} 0 1 = cc in omega arith)
-
-module _ (ws : List ℕ) (c : Cursor) (l : Look) (x : Sees ws c l) where
-  pub seen_pair : (k v : ℕ) → l ≡ Pair k v → Seen ws c (record { reply = reply.Pair k v; cursor = c })
-  seen_pair k v e = record { cursor = refl; pair = λ p s o a. pair_told (pair_at (leaves (tree_of p c.tree)) s) k v (sym e ∙ x.sees p s o a) }
-
-  pub seen_none : l ≡ Nothing → Seen ws c (record { reply = reply.Nothing; cursor = c })
-  seen_none e = record { cursor = refl; pair = λ p s o a. none_told (pair_at (leaves (tree_of p c.tree)) s) (sym e ∙ x.sees p s o a) }
-
 -- at the first entry
 
-pub first_none : (c : Cursor) → c.size ≡ 0 → false ≡ at_first c
-unfolding at_first
-first_none c h = simp (le-ltb 0 c.size (omega arith))
+none_is : (b : Option ℕ) → is_none b ≡ true → b ≡ None
+none_is None e = refl
+none_is (Some l) e = absurd (true≢false (sym e))
 
-module _ (c : Cursor) (h : c.size ≡ 0 → ⊥) where
-  pub first_inside : (get_or c.places (c.size - 1) 0 ≡ 0 → ⊥) → false ≡ at_first c
-  unfolding at_first
-  first_inside k = simp (lt-ltb 0 c.size (omega arith), ne_eqb (get_or c.places (c.size - 1) 0) 0 k)
-
-  pub first-front : (b d : Branch) → get_or c.places (c.size - 1) 0 ≡ 0 → d ≡ left_branch c.places (c.size - 1) → d ≡ b → no_branch b ≡ at_first c
-  unfolding at_first
-  first-front b d k e q = rw (lt-ltb 0 c.size (omega arith), eq-eqb (get_or c.places (c.size - 1) 0) 0 k, ← e, q)
-
-no_branch_lem : (b : Branch) → no_branch b ≡ true → b ≡ branch.Nothing
-no_branch_lem branch.Nothing e = refl
-no_branch_lem (branch.At l) e = absurd (true≢false (sym e))
-
-parts : (c : Cursor) → at_first c ≡ true → (1 ≤ c.size) × (get_or c.places (c.size - 1) 0 ≡ 0) × (left_branch c.places (c.size - 1) ≡ branch.Nothing)
+parts : (c : Cursor) → at_first c ≡ true → (1 ≤ c.size) × (get_or c.places (c.size - 1) 0 ≡ 0) × (left_branch c.places (c.size - 1) ≡ None)
 unfolding at_first
 parts c h = elim (test (ltb 0 c.size)) [
   | isnt a ↦ absurd (true≢false (sym (simp a at h)))
   | is a ↦ elim (test (eqb (get_or c.places (c.size - 1) 0) 0)) [
     | isnt b ↦ absurd (true≢false (sym (simp (a, b) at h)))
-    | is b ↦ (ltb-true _ _ a, eqb-true _ _ b, no_branch_lem _ (simp (a, b) at h))
+    | is b ↦ (ltb-true _ _ a, eqb-true _ _ b, none_is _ (simp (a, b) at h))
   ]
 ]
 
@@ -87,7 +50,7 @@ module _ (ws : List ℕ) (t : ℕ) (c : Cursor) (y : Ready ws t c.tree) where
       go u zero k =
           let z : u.e ≡ 0 = sym (leaf_place ws t c p s u) ∙ (parts c e).1 in
           u.spot_is ∙ cc
-      go u (suc i) k = absurd (none_at _ (sym (parts c e).2 ∙ (prev_left ws t c y (parts c e).0 p s u i k).branch))
+      go u (suc i) k = absurd (none-some _ (sym (parts c e).2 ∙ (prev_left ws t c y (parts c e).0 p s u i k).branch))
 
   at_front : (p : Pool) → Of ws p → At p c (on 0 0) → at_first c ≡ true
   unfolding at_first
@@ -124,13 +87,12 @@ module _ (ws : List ℕ) (t : ℕ) (c : Cursor) (y : Ready ws t c.tree) where
   }
 
   -- elsewhere it gives the pair that the moved cursor is on
-  pub back_seen : at_first c ≡ false → (d : Cursor) (l : Look) (r : Moved) → Steps prev ws c d → Sees ws d l → r.cursor ≡ d →
-      ((o : Option Item) → l ≡ look_of o → r.reply ≡ told o) → Back ws c r
-  back_seen e d l r x z q g = record {
-    cursor = rw q x;
+  pub back_seen : at_first c ≡ false → (d : Cursor) (r : Moved) → Steps prev ws c d → Seen ws d r → Back ws c r
+  back_seen e d r x z = record {
+    cursor = rw z.cursor x;
     pair = λ p s o a.
         let b = moved_at prev fits-prev ws c d x p s o a in
         let k = moved_tree prev fits-prev ws c d x p s o a in
-        g (pair_at (leaves (tree_of p d.tree)) (prev (leaves (tree_of p c.tree)) s)) (z.sees p (prev (leaves (tree_of p c.tree)) s) o b) ∙
+        z.pair p (prev (leaves (tree_of p c.tree)) s) o b ∙
         ap (λ (n : ℕ). told (pair_at (leaves (tree_of p n)) (prev (leaves (tree_of p c.tree)) s))) k ∙ ap told (sym (other_pair e p s o a (leaves (tree_of p c.tree))));
   }

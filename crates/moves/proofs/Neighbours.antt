@@ -6,6 +6,8 @@ use native.Mathlib.Omega.{arith}
 use lib.ListN.{length, take, get_or, length-append}
 use lib.Seq.{length-take-le}
 use lib.Dec.{ltb}
+use Rattle.std.specs.Prelude.{Option, Some, None}
+use Rattle.std.proofs.lemmas.Option.{none-some, same_Some}
 use borrow.Author.Tests.{lt-ltb, le-ltb, ltb-true, ltb-false}
 use Rattle.forest.specs.Rows.{Tree, nums, items_at}
 use Rattle.forest.specs.Pools.{Pool, tree_of, leaf_words}
@@ -16,8 +18,6 @@ use Rattle.forest.proofs.RowLaws.{length-items}
 use Rattle.path.specs.Ways.{base, block, descend, Deep}
 use Rattle.path.specs.Levels.{pushed, extended, cut_at, right_branch, left_branch, Safe}
 use Rattle.path.specs.Cores.{Ready, At, Standing}
-use Rattle.path.specs.declared.Branch.{Branch}
-use Rattle.path.specs.declared.Branch.TheVariants as branch
 use Rattle.path.specs.declared.Way.{Way}
 use Rattle.path.specs.declared.Way.TheVariants.{First, Last}
 use Rattle.path.proofs.NodeWords.{land_first, land_last}
@@ -26,7 +26,7 @@ use Rattle.path.proofs.Downward.{leaf_step}
 use Rattle.path.proofs.CursorWords.{push_at, cut_at_lem, extend_at}
 use Rattle.path.proofs.Steps.{first_word, link_word_at, child_deep, length-descend}
 use Rattle.path.proofs.Seats.{Seat, seat, path_s, seat-size, seat-node, seat-place, inner_seat, own_pool, own_spot, own_seat, row_is}
-use Rattle.path.proofs.Branches.{right_more, left_more, none_at, at_level}
+use Rattle.path.proofs.Branches.{right_more, left_more}
 use Rattle.moves.specs.Moves.{Level, branched, Steps, next_leaf, prev_leaf}
 use Rattle.moves.proofs.Sideways.{Agrees, step_right, step_left, Right, Left, right_some, right_none, left_some, left_none}
 use Rattle.forest.proofs.StandLaws.{length-path_up}
@@ -64,14 +64,14 @@ module _ (ws : List ℕ) (t : ℕ) (c : Cursor) (y : Ready ws t c.tree) (d : Sta
       }
 
   -- the level where the path branches off
-  pub right_level : (l : ℕ) (b : Branch) → b ≡ right_branch ws t c.nodes c.places (c.size - 1) → b ≡ branch.At l →
+  pub right_level : (l : ℕ) (b : Option ℕ) → b ≡ right_branch ws t c.nodes c.places (c.size - 1) → b ≡ Some l →
       Level ws t c l × (get_or c.places l 0 + 1 + 16 ≤ get_or ws (base t (get_or c.nodes l 0)) 0) × (get_or c.places l 0 < 7)
   right_level l b e q =
       let m = right_more ws t c.nodes c.places (c.size - 1) l (sym e ∙ q) in
       let v = level l m.0 in
       (v, omega (arith, m.1), omega (arith, m.1, v.most))
 
-  pub left_level : (l : ℕ) (b : Branch) → b ≡ left_branch c.places (c.size - 1) → b ≡ branch.At l →
+  pub left_level : (l : ℕ) (b : Option ℕ) → b ≡ left_branch c.places (c.size - 1) → b ≡ Some l →
       Level ws t c l × (1 ≤ get_or c.places l 0) × (get_or c.places l 0 - 1 + 16 ≤ get_or ws (base t (get_or c.nodes l 0)) 0) × (get_or c.places l 0 < 8)
   left_level l b e q =
       let m = left_more c.places (c.size - 1) l (sym e ∙ q) in
@@ -152,13 +152,13 @@ module _ (ws : List ℕ) (t : ℕ) (c : Cursor) (y : Ready ws t c.tree) (h : 1 �
         ap (λ (x : ℕ). (get_or (nums u.L) i 0, x) ∷ []) (land_last (items_at u.L i) ∙ ap (◌- 1) (length-items u.L i)) in
         rw above_leaf (rw e at g)
 
-    no-right : length u.L ≤ suc u.j → right_branch ws t c.nodes c.places (c.size - 1) ≡ branch.Nothing
+    no-right : length u.L ≤ suc u.j → right_branch ws t c.nodes c.places (c.size - 1) ≡ None
     no-right k =
         let a = u.laid.few in
         let b = u.inside in
         rw above_leaf (right_none ws t c.nodes c.places u.L u.Rs u.j ((get_or (nums u.L) u.j 0, u.e) ∷ []) u.laid.good.2 u.laid.inner (omega arith) agrees (omega arith))
 
-    pub no_left : u.j ≡ 0 → left_branch c.places (c.size - 1) ≡ branch.Nothing
+    pub no_left : u.j ≡ 0 → left_branch c.places (c.size - 1) ≡ None
     no_left k =
         let a = u.laid.few in
         rw above_leaf (left_none ws t c.nodes c.places u.L u.Rs u.j ((get_or (nums u.L) u.j 0, u.e) ∷ []) u.laid.good.2 u.laid.inner (omega arith) agrees k)
@@ -186,27 +186,27 @@ module _ (ws : List ℕ) (t : ℕ) (c : Cursor) (y : Ready ws t c.tree) (h : 1 �
         ap (path_of (tree_of p c.tree)) e ∙ tree-row (leaf_end u.L i)
 
   -- no level has more to the right
-  pub next_none : (r : Cursor) (b : Branch) → b ≡ right_branch ws t c.nodes c.places (c.size - 1) → b ≡ branch.Nothing → r ≡ cursor_at c.tree [] → Steps next_leaf ws c r
+  pub next_none : (r : Cursor) (b : Option ℕ) → b ≡ right_branch ws t c.nodes c.places (c.size - 1) → b ≡ None → r ≡ cursor_at c.tree [] → Steps next_leaf ws c r
   next_none r b q z e = record {
     to = λ p s o a.
         let u = seat ws t c y h p s o a in
         elim (test (ltb (suc u.j) (length u.L))) [
           | isnt k ↦ e ∙ ap (cursor_at c.tree) (sym (off-path p s u (ltb-false _ _ k)))
-          | is k ↦ absurd (none_at _ (sym z ∙ q ∙ (next-right p s u (ltb-true _ _ k)).branch))
+          | is k ↦ absurd (none-some _ (sym z ∙ q ∙ (next-right p s u (ltb-true _ _ k)).branch))
         ];
   }
 
   -- a step to the right at level l
-  pub next_some : (l : ℕ) (r : Cursor) (b : Branch) → b ≡ right_branch ws t c.nodes c.places (c.size - 1) → b ≡ branch.At l → get_or c.places l 0 < 7 →
+  pub next_some : (l : ℕ) (r : Cursor) (b : Option ℕ) → b ≡ right_branch ws t c.nodes c.places (c.size - 1) → b ≡ Some l → get_or c.places l 0 < 7 →
       r ≡ branched First ws t c l (get_or c.places l 0 + 1) → Steps next_leaf ws c r
   next_some l r b e z w q = record {
     to = λ p s o a.
         let u = seat ws t c y h p s o a in
         elim (test (ltb (suc u.j) (length u.L))) [
-          | isnt k ↦ absurd (none_at l (sym (no-right p s u (ltb-false _ _ k)) ∙ sym e ∙ z))
+          | isnt k ↦ absurd (none-some l (sym (no-right p s u (ltb-false _ _ k)) ∙ sym e ∙ z))
           | is k ↦
               let g = next-right p s u (ltb-true _ _ k) in
-              let x = at_level l g.at (sym z ∙ e ∙ g.branch) in
+              let x = same_Some l g.at (sym z ∙ e ∙ g.branch) in
               let v : l < c.size - 1 = rw x g.above in
               let m : step_right ws t c.nodes c.places (path_s ws t c p s u) l ≡ path_of (u.L ∷ u.Rs) (on (suc u.j) 0) = rw x g.same in
               let i = link_word_at ws (base t (get_or c.nodes l 0)) (get_or c.places l 0 + 1) (omega arith) in
@@ -215,23 +215,23 @@ module _ (ws : List ℕ) (t : ℕ) (c : Cursor) (y : Ready ws t c.tree) (h : 1 �
   }
 
   -- no level has something to the left: the first leaf
-  pub prev_none : (b : Branch) → b ≡ left_branch c.places (c.size - 1) → b ≡ branch.Nothing → Steps prev_leaf ws c c
+  pub prev_none : (b : Option ℕ) → b ≡ left_branch c.places (c.size - 1) → b ≡ None → Steps prev_leaf ws c c
   prev_none b e z = record { to = λ p s o a. go p s a (seat ws t c y h p s o a) (seat ws t c y h p s o a).j refl }
     where
       go : (p : Pool) (s : Spot) → At p c s → (u : Seat ws t p c s) (i : ℕ) → u.j ≡ i → c ≡ cursor_at c.tree (path_of (tree_of p c.tree) (prev_leaf (leaves (tree_of p c.tree)) s))
       go p s a u zero k = sym (ap (λ (v : Spot). cursor_at c.tree (path_of (tree_of p c.tree) v)) (first_spot p s u k) ∙ a.same)
-      go p s a u (suc i) k = absurd (none_at _ (sym z ∙ e ∙ (prev_left p s u i k).branch))
+      go p s a u (suc i) k = absurd (none-some _ (sym z ∙ e ∙ (prev_left p s u i k).branch))
 
   -- a step to the left at level l
-  pub prev_some : (l : ℕ) (r : Cursor) (b : Branch) → b ≡ left_branch c.places (c.size - 1) → b ≡ branch.At l → get_or c.places l 0 < 8 →
+  pub prev_some : (l : ℕ) (r : Cursor) (b : Option ℕ) → b ≡ left_branch c.places (c.size - 1) → b ≡ Some l → get_or c.places l 0 < 8 →
       r ≡ branched Last ws t c l (get_or c.places l 0 - 1) → Steps prev_leaf ws c r
   prev_some l r b e z w q = record { to = λ p s o a. go p s (seat ws t c y h p s o a) (seat ws t c y h p s o a).j refl }
     where
       go : (p : Pool) (s : Spot) (u : Seat ws t p c s) (i : ℕ) → u.j ≡ i → r ≡ cursor_at c.tree (path_of (tree_of p c.tree) (prev_leaf (leaves (tree_of p c.tree)) s))
-      go p s u zero k = absurd (none_at l (sym (no_left p s u k) ∙ sym e ∙ z))
+      go p s u zero k = absurd (none-some l (sym (no_left p s u k) ∙ sym e ∙ z))
       go p s u (suc i) k =
           let g = prev_left p s u i k in
-          let x = at_level l g.at (sym z ∙ e ∙ g.branch) in
+          let x = same_Some l g.at (sym z ∙ e ∙ g.branch) in
           let v : l < c.size - 1 = rw x g.above in
           let m : step_left ws t c.nodes c.places (path_s ws t c p s u) l ≡ path_of (u.L ∷ u.Rs) (leaf_end u.L i) = rw x g.same in
           let j = link_word_at ws (base t (get_or c.nodes l 0)) (get_or c.places l 0 - 1) (omega arith) in

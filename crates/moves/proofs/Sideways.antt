@@ -15,7 +15,7 @@ use Rattle.forest.proofs.RowLaws.{length-items}
 use Rattle.forest.proofs.TowerLaws.{tower_some}
 use Rattle.path.specs.Ways.{block, descend}
 use Rattle.path.specs.Levels.{right_branch, left_branch}
-use Rattle.path.specs.declared.Branch.TheVariants.{At, Nothing}
+use Rattle.std.specs.Prelude.{Some, None}
 use Rattle.path.specs.declared.Way.TheVariants.{First, Last}
 use Rattle.path.proofs.NodeWords.{turn_last, turn_first, Grouped, grouped_at, sum_all, group_end}
 use Rattle.path.proofs.Laid.{RowIn, RowsIn, size_bounds, ParentRow, parent_row, children, child_at, parent_in, offset_in, inner_first}
@@ -108,13 +108,13 @@ module _ (ws : List ℕ) (t : ℕ) (ns ps : List ℕ) where
 
   pub record Right (level : ℕ) (path other : Path) : Type 0 where
     pub at : ℕ
-    pub branch : right_branch ws t ns ps level ≡ At at
+    pub branch : right_branch ws t ns ps level ≡ Some at
     pub above : at < level
     pub same : step_right path at ≡ other
 
   pub record Left (level : ℕ) (path other : Path) : Type 0 where
     pub at : ℕ
-    pub branch : left_branch ps level ≡ At at
+    pub branch : left_branch ps level ≡ Some at
     pub above : at < level
     pub same : step_left path at ≡ other
 
@@ -142,7 +142,7 @@ module _ (ws : List ℕ) (t : ℕ) (ns ps : List ℕ) where
         let q = parent_in R S st i h in
         rw (own-node, r.are (parent (sizes S) i) q, e) (child_at R S st (parent (sizes S) i) o q b)
 
-    branch-here : suc (offset (sizes S) i) < get_or (sizes S) (parent (sizes S) i) 0 → right_branch ws t ns ps (suc (length Ss)) ≡ At (length Ss)
+    branch-here : suc (offset (sizes S) i) < get_or (sizes S) (parent (sizes S) i) 0 → right_branch ws t ns ps (suc (length Ss)) ≡ Some (length Ss)
     unfolding right_branch
     branch-here k = simp (lt-ltb (get_or ps (length Ss) 0 + 16) (get_or (block ws t (get_or ns (length Ss) 0)) 0 0) (omega (arith, own_first, own-place)))
 
@@ -150,7 +150,7 @@ module _ (ws : List ℕ) (t : ℕ) (ns ps : List ℕ) where
     unfolding right_branch
     branch-above k = simp (le-ltb (get_or ps (length Ss) 0 + 16) (get_or (block ws t (get_or ns (length Ss) 0)) 0 0) (omega (arith, own_first, own-place)))
 
-    left_here : 1 ≤ offset (sizes S) i → left_branch ps (suc (length Ss)) ≡ At (length Ss)
+    left_here : 1 ≤ offset (sizes S) i → left_branch ps (suc (length Ss)) ≡ Some (length Ss)
     unfolding left_branch
     left_here k = simp (ne_eqb (get_or ps (length Ss) 0) 0 (λ (z : get_or ps (length Ss) 0 ≡ 0). omega (arith, own-place)))
 
@@ -211,7 +211,7 @@ module _ (ws : List ℕ) (t : ℕ) (ns ps : List ℕ) where
       ]
 
   pub right_none : (R : Row) (Rs : List Row) (i : ℕ) (below : Path) → Tower R Rs → RowsIn ws t Rs → length Rs < 16 → Agrees (path_up i Rs below) → suc i ≡ length R →
-      right_branch ws t ns ps (length Rs) ≡ Nothing
+      right_branch ws t ns ps (length Rs) ≡ None
   unfolding right_branch
   right_none R [] i below w r few a h = refl
   right_none R (S ∷ Ss) i below w r few a h =
@@ -253,7 +253,7 @@ module _ (ws : List ℕ) (t : ℕ) (ns ps : List ℕ) where
             }
       ]
 
-  pub left_none : (R : Row) (Rs : List Row) (i : ℕ) (below : Path) → Tower R Rs → RowsIn ws t Rs → length Rs < 16 → Agrees (path_up i Rs below) → i ≡ 0 → left_branch ps (length Rs) ≡ Nothing
+  pub left_none : (R : Row) (Rs : List Row) (i : ℕ) (below : Path) → Tower R Rs → RowsIn ws t Rs → length Rs < 16 → Agrees (path_up i Rs below) → i ≡ 0 → left_branch ps (length Rs) ≡ None
   unfolding left_branch
   left_none R [] i below w r few a h = refl
   left_none R (S ∷ Ss) i below w r few a h =

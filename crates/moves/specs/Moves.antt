@@ -1,5 +1,5 @@
 -- DEFINITIONS. What the moves of a cursor promise: another place in a level, and for every well formed pool whose words these are, the spot that a move comes to
-use Rattle.std.specs.Prelude.{◌≡◌, List, Bool, ◌&&◌, ℕ, zero, suc, ◌+◌, ◌-◌, ◌≤◌, ◌<◌, length, get_or, set, ltb, eqb}
+use Rattle.std.specs.Prelude.{◌≡◌, List, is_none, Bool, ◌&&◌, ℕ, zero, suc, ◌+◌, ◌-◌, ◌≤◌, ◌<◌, length, get_or, set, ltb, eqb}
 use Rattle.forest.specs.Sizes.{most_trees, most_nodes}
 use Rattle.forest.specs.Cursors.{cursor_at, Spot, off, on, leaves, pair_at, leaf_start, leaf_end, path_of, prev, prev_pair}
 use Rattle.forest.specs.declared.Cursor.{Cursor}
@@ -9,7 +9,7 @@ use Rattle.forest.specs.Answers.{told}
 use Rattle.forest.specs.declared.Moved.{Moved}
 use Rattle.path.specs.declared.Way.{Way}
 use Rattle.path.specs.Ways.{Deep, descend, base}
-use Rattle.path.specs.Levels.{pushed, extended, cut_at, left_branch, no_branch}
+use Rattle.path.specs.Levels.{pushed, extended, cut_at, left_branch}
 use Rattle.path.specs.Cores.{Of, At}
 
 -- the cursor with another place at level l
@@ -18,7 +18,7 @@ entered c l p = record { tree = c.tree; size = c.size; nodes = c.nodes; places =
 
 -- is a cursor at the first entry of its tree
 unfoldable pub at_first : Cursor → Bool
-at_first c = ltb 0 c.size && (eqb (get_or c.places (c.size - 1) 0) 0 && no_branch (left_branch c.places (c.size - 1)))
+at_first c = ltb 0 c.size && (eqb (get_or c.places (c.size - 1) 0) 0 && is_none (left_branch c.places (c.size - 1)))
 
 -- level l of a cursor is an inner node with a child at its place; every way down from it stays in the words
 pub record Level (ws : List ℕ) (t : ℕ) (c : Cursor) (l : ℕ) : Type 0 where

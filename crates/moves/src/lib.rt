@@ -11,7 +11,7 @@ ghost use Rattle.path.specs.Cores.{Ready, Standing};
 ghost use Rattle.moves.specs.Moves.{Level, branched, entered, at_first, Steps, Seen, Back, next_leaf, prev_leaf};
 
 use forest::{Cursor, Moved, Reply};
-use path::{Branch, Look, Way};
+use path::Way;
 
 // Keep the levels above level l, take another child there, and go down.
 fn branch_off(ws: &[u32], t: usize, way: Way, c: Cursor, l: usize, place: usize) -> Cursor
@@ -34,7 +34,7 @@ fn next_node(ws: &[u32], t: usize, c: Cursor) -> Cursor
     ensures { Steps next_leaf ws.now c result }
 {
     let size = c.size as usize;
-    let Branch::At(l) = path::right_sibling_branch_level(ws, t, c, size - 1) else {
+    let Some(l) = path::right_sibling_branch_level(ws, t, c, size - 1) else {
         return path::off_end(c.tree);
     };
     let place = c.places[l] as usize + 1;
@@ -58,7 +58,7 @@ fn prev_leaf(ws: &[u32], t: usize, c: Cursor) -> Cursor
     ensures { Steps prev_leaf ws.now c result }
 {
     let size = c.size as usize;
-    let Branch::At(l) = path::left_sibling_branch_level(c, size - 1) else {
+    let Some(l) = path::left_sibling_branch_level(c, size - 1) else {
         return c;
     };
     let place = c.places[l] as usize - 1;
@@ -79,13 +79,13 @@ fn leaf_entries(ws: &[u32], t: usize, c: Cursor) -> u32
 }
 
 // Move within the leaf.
-fn set_entry(c: Cursor, l: usize, entry: u32) -> Cursor
+#[tactic(auto, unfolding(crate::specs::Moves::entered))]
+fn set_entry(mut c: Cursor, l: usize, entry: u32) -> Cursor
     requires { l < 16 }
     ensures { result ≡ entered c l entry }
 {
-    let mut out = c;
-    out.places[l] = entry;
-    out
+    c.places[l] = entry;
+    c
 }
 
 // Go to the next pair.
@@ -125,22 +125,13 @@ pub fn normalize(ws: &[u32], t: usize, c: Cursor) -> Cursor
 }
 
 // Whether a cursor is on the first pair of its tree.
+#[tactic(auto, unfolding(crate::specs::Moves::at_first))]
 fn at_first_entry(c: Cursor) -> bool
     requires { c.size ≤ 16 }
     ensures { result ≡ at_first c }
 {
     let size = c.size as usize;
-    if size == 0 {
-        return false;
-    }
-    let entry = c.places[size - 1];
-    if entry != 0 {
-        return false;
-    }
-    match path::left_sibling_branch_level(c, size - 1) {
-        Branch::At(_) => false,
-        Branch::Nothing => true,
-    }
+    size != 0 && c.places[size - 1] == 0 && path::left_sibling_branch_level(c, size - 1).is_none()
 }
 
 // Go to the pair before; from off the end to the last pair; on the first pair stay.
@@ -170,16 +161,11 @@ pub fn seen(ws: &[u32], t: usize, c: Cursor) -> Moved
     requires standing { Standing ws.now c }
     ensures { Seen ws.now c result }
 {
-    match path::look_at(ws, t, c) {
-        Look::Pair(key, value) => Moved {
-            reply: Reply::Pair(key, value),
-            cursor: c,
-        },
-        Look::Nothing => Moved {
-            reply: Reply::Nothing,
-            cursor: c,
-        },
-    }
+    let reply = match path::look_at(ws, t, c) {
+        Some((key, value)) => Reply::Pair(key, value),
+        None => Reply::Nothing,
+    };
+    Moved { reply, cursor: c }
 }
 
 // Go to the pair before and give it; on the first pair none.
@@ -194,15 +180,5 @@ pub fn prev(ws: &[u32], t: usize, c: Cursor) -> Moved
             cursor: c,
         };
     }
-    let d = step_back(ws, t, c);
-    let Look::Pair(key, value) = path::look_at(ws, t, d) else {
-        return Moved {
-            reply: Reply::Nothing,
-            cursor: d,
-        };
-    };
-    Moved {
-        reply: Reply::Pair(key, value),
-        cursor: d,
-    }
+    seen(ws, t, step_back(ws, t, c))
 }

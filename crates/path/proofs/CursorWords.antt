@@ -44,12 +44,6 @@ cut_at_lem t path l h k =
     let g = cut_pad (λ q. q.1) path l h k in
     λ i. record { tree = t; size = e i; nodes = f i; places = g i }
 
--- the cursor of the first l levels, from its words
-pub cut_is : (c : Cursor) (l : ℕ) (ns ps : List ℕ) → ns ≡ pad most_levels (take l c.nodes) → ps ≡ pad most_levels (take l c.places) →
-    record { tree = c.tree; size = l; nodes = ns; places = ps } ≡ cut_at c l
-unfolding cut_at
-cut_is c l ns ps e f = λ i. record { tree = c.tree; size = l; nodes = e i; places = f i }
-
 -- what stands at a level
 pub node_at_lem : (t : ℕ) (path : Path) (l : ℕ) → l < 16 → get_or (cursor_at t path).nodes l 0 ≡ (get_or path l (0, 0)).0
 node_at_lem t path l h = get_or-pad most_levels (map (λ (q : ℕ × ℕ). q.0) path) l h ∙ get_or-map (λ (q : ℕ × ℕ). q.0) path l (0, 0)

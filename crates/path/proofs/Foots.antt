@@ -12,7 +12,7 @@ use Rattle.forest.specs.declared.Cursor.{Cursor}
 use Rattle.forest.proofs.ListLaws.{is, isnt, test}
 use Rattle.path.specs.Ways.{base, block, keys_of, turn_of, land_of, descend, foot_of}
 use Rattle.path.specs.Cores.{Ready, Goes, Standing, LeafIn, look_in, Ends, Looks, look_of}
-use Rattle.path.specs.declared.Look.TheVariants.{Nothing}
+use Rattle.std.specs.Prelude.{None}
 use Rattle.path.specs.declared.Way.{Way}
 use Rattle.path.specs.declared.Way.TheVariants.{Key}
 use Rattle.path.proofs.Steps.{first_word, link_word_at}
@@ -75,7 +75,7 @@ module _ (way : Way) (ws : List ℕ) (t : ℕ) where
 -- the cursor that is not made
 module _ (ws : List ℕ) (t tree : ℕ) (y : Ready ws t tree) (k : ℕ) where
   -- in an empty tree
-  pub looks_empty : get_or ws (1 + tree) 0 ≡ 0 → Looks k ws tree Nothing
+  pub looks_empty : get_or ws (1 + tree) 0 ≡ 0 → Looks k ws tree None
   looks_empty z = record {
     at = cursor_at tree [];
     goes = goes_empty ws t tree y (seek k) refl (cursor_at tree []) z refl;

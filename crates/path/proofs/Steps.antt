@@ -7,15 +7,13 @@ use native.Mathlib.Omega.{arith}
 use lib.ListN.{length, take, drop, get_or, length-take, length-drop}
 use lib.Seq.{take-take, length-take-le}
 use lib.Dec.{leb}
-use borrow.Author.Tests.{lt-ltb, le-ltb, le-leb, lt-leb}
+use borrow.Author.Tests.{le-leb, lt-leb}
 use Rattle.std.specs.Prelude.{Result, Ok, Err}
 use Rattle.forest.specs.Slices.{KeysRise, searched}
 use Rattle.forest.specs.declared.Cursor.{Cursor}
 use Rattle.forest.proofs.ListLaws.{is, isnt, test}
 use Rattle.path.specs.Ways.{base, block_at, block, keys_of, turn_of, land_of, descend, Lies, Deep}
 use Rattle.path.specs.Levels.{pushed, extended}
-use Rattle.path.specs.Cores.{look_in}
-use Rattle.path.specs.declared.Look.TheVariants.{Pair, Nothing}
 use Rattle.path.specs.declared.Way.{Way}
 use Rattle.path.specs.declared.Way.TheVariants.{Key, First, Last}
 pub use Rattle.forest.proofs.Slices.{first_block as first_word}
@@ -30,15 +28,6 @@ link_word_at ws b i h = let z : b + (8 + i) ≡ b + 8 + i = omega arith in at_bl
 
 pub key_word_at : (ws : List ℕ) (b i : ℕ) → i < 7 → get_or (block_at ws b) (1 + i) 0 ≡ get_or ws (b + 1 + i) 0
 key_word_at ws b i h = let z : b + (1 + i) ≡ b + 1 + i = omega arith in at_block ws b (1 + i) (omega arith) ∙ ap (λ (x : ℕ). get_or ws x 0) z
-
--- each return of a look into a leaf
-pub looks_pair : (ws : List ℕ) (t n e : ℕ) → e + 32 < get_or ws (base t n) 0 → Pair (get_or ws (base t n + 1 + e) 0) (get_or ws (base t n + 8 + e) 0) ≡ look_in ws t n e
-unfolding look_in
-looks_pair ws t n e h = rw (lt-ltb (e + 32) (get_or ws (base t n) 0) h)
-
-pub looks_none : (ws : List ℕ) (t n e : ℕ) → get_or ws (base t n) 0 ≤ e + 32 → Nothing ≡ look_in ws t n e
-unfolding look_in
-looks_none ws t n e h = rw (le-ltb (e + 32) (get_or ws (base t n) 0) h)
 
 -- turn and land, as the code has them
 module _ (ws : List ℕ) (b : ℕ) where

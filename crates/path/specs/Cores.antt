@@ -1,6 +1,6 @@
 -- DEFINITIONS. What the functions that go down promise: for every well formed pool whose words these are, the path is that of a spot
-use Rattle.std.specs.Prelude.{◌≡◌, List, cond, ℕ, ◌+◌, ◌-◌, ◌≤◌, ◌<◌, length, get_or, ltb}
-use Rattle.std.proofs.Math.Option.{Option, none, some}
+use Rattle.std.specs.Prelude.{◌≡◌, List, Option, Some, None, cond, ℕ, ◌+◌, ◌-◌, ◌≤◌, ◌<◌, length, get_or, ltb}
+use Rattle.std.proofs.Math.Option as maybe
 use Rattle.forest.specs.Sizes.{most_trees, most_nodes, leaf_least}
 use Rattle.forest.specs.Pairs.{Item}
 use Rattle.forest.specs.Rows.{Row}
@@ -8,8 +8,6 @@ use Rattle.forest.specs.Pools.{Pool, WellFormed, Sound, encode, tree_of}
 use Rattle.forest.specs.Cursors.{Path, Spot, leaves, Fits, pair_at, path_of, cursor_at, Stands, seek}
 use Rattle.forest.specs.declared.Cursor.{Cursor}
 use Rattle.path.specs.Ways.{base}
-use Rattle.path.specs.declared.Look.{Look}
-use Rattle.path.specs.declared.Look.TheVariants.{Pair, Nothing}
 
 -- the words are sound, t is their number of trees, and `tree` is one of these
 pub record Ready (ws : List ℕ) (t tree : ℕ) : Type 0 where
@@ -35,10 +33,14 @@ pub record Standing (ws : List ℕ) (c : Cursor) : Type 0 where
 pub record Goes (f : Row → Spot) (ws : List ℕ) (tree : ℕ) (d : Cursor) : Type 0 where
   pub to : (p : Pool) → Of ws p → d ≡ cursor_at tree (path_of (tree_of p tree) (f (leaves (tree_of p tree))))
 
+-- what a look sees: a key and its value, or nothing
+abbrev pub Look : Type 0
+Look = Option (ℕ × ℕ)
+
 -- what a look at a spot sees
-abbrev pub look_of : Option Item → Look
-look_of none = Nothing
-look_of (some x) = Pair x.0 x.1
+abbrev pub look_of : maybe.Option Item → Look
+look_of maybe.none = None
+look_of (maybe.some x) = Some x
 
 -- a look at a cursor sees the pair of its spot, or nothing
 pub record Sees (ws : List ℕ) (c : Cursor) (r : Look) : Type 0 where
@@ -55,7 +57,7 @@ pub record LeafIn (ws : List ℕ) (t n : ℕ) : Type 0 where
 
 -- what stands at place e of leaf n
 unfoldable pub look_in : List ℕ → ℕ → ℕ → ℕ → Look
-look_in ws t n e = cond (ltb (e + 32) (get_or ws (base t n) 0)) (Pair (get_or ws (base t n + 1 + e) 0) (get_or ws (base t n + 8 + e) 0)) Nothing
+look_in ws t n e = cond (ltb (e + 32) (get_or ws (base t n) 0)) (Some (get_or ws (base t n + 1 + e) 0, get_or ws (base t n + 8 + e) 0)) None
 
 -- the path that seek makes ends in leaf n, at place e
 pub record Ends (key : ℕ) (ws : List ℕ) (tree n e : ℕ) : Type 0 where

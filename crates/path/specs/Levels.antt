@@ -1,12 +1,10 @@
 -- DEFINITIONS. The levels of a cursor in the words: one more, fewer, where a path branches off
-use Rattle.std.specs.Prelude.{List, [], ◌∷◌, Bool, true, false, cond, ℕ, zero, suc, ◌+◌, ◌≤◌, ◌<◌, length, take, get_or, set, ltb, eqb}
+use Rattle.std.specs.Prelude.{List, [], ◌∷◌, Option, Some, None, Bool, cond, ℕ, zero, suc, ◌+◌, ◌≤◌, ◌<◌, length, take, get_or, set, ltb, eqb}
 use Rattle.forest.specs.Sizes.{most_trees, most_nodes, most_levels}
 use Rattle.forest.specs.Lists.{pad}
 use Rattle.forest.specs.Cursors.{Path}
 use Rattle.forest.specs.declared.Cursor.{Cursor}
 use Rattle.path.specs.Ways.{base, block}
-use Rattle.path.specs.declared.Branch.{Branch}
-use Rattle.path.specs.declared.Branch.TheVariants.{At, Nothing}
 
 -- the cursor with one level more: node n, place p
 unfoldable pub pushed : Cursor → ℕ → ℕ → Cursor
@@ -36,19 +34,14 @@ abbrev pub more_right : List ℕ → ℕ → List ℕ → List ℕ → ℕ → B
 more_right ws t ns ps l = ltb (get_or ps l 0 + 16) (get_or (block ws t (get_or ns l 0)) 0 0)
 
 -- the deepest level above l with more to the right
-unfoldable pub right_branch : List ℕ → ℕ → List ℕ → List ℕ → ℕ → Branch
-right_branch ws t ns ps zero = Nothing
-right_branch ws t ns ps (suc l) = cond (more_right ws t ns ps l) (At l) (right_branch ws t ns ps l)
+unfoldable pub right_branch : List ℕ → ℕ → List ℕ → List ℕ → ℕ → Option ℕ
+right_branch ws t ns ps zero = None
+right_branch ws t ns ps (suc l) = cond (more_right ws t ns ps l) (Some l) (right_branch ws t ns ps l)
 
 -- the deepest level above l with something to the left
-unfoldable pub left_branch : List ℕ → ℕ → Branch
-left_branch ps zero = Nothing
-left_branch ps (suc l) = cond (eqb (get_or ps l 0) 0) (left_branch ps l) (At l)
-
--- is there no such level
-abbrev pub no_branch : Branch → Bool
-no_branch Nothing = true
-no_branch (At l) = false
+unfoldable pub left_branch : List ℕ → ℕ → Option ℕ
+left_branch ps zero = None
+left_branch ps (suc l) = cond (eqb (get_or ps l 0) 0) (left_branch ps l) (Some l)
 
 -- the nodes of a cursor down to a level lie in the words, and its places are small
 pub record Safe (ws : List ℕ) (t : ℕ) (c : Cursor) (level : ℕ) : Type 0 where

@@ -1,7 +1,7 @@
 // Paths from the root of a tree to a leaf, as the crate's path.rs has them: going down, and where a path branches. A cursor is taken by value and handed back.
 #![tactic(auto)]
 
-ghost use Rattle.std.specs.Prelude.{◌≡◌, ◌+◌, ◌-◌, ◌*◌, ◌≤◌, ◌<◌, [], length, take, get_or};
+ghost use Rattle.std.specs.Prelude.{◌≡◌, ◌+◌, ◌-◌, ◌*◌, ◌≤◌, ◌<◌, [], length, take, drop, get_or};
 ghost use Rattle.forest.specs.Sizes.{most_trees, most_levels};
 ghost use Rattle.forest.specs.Lists.{pad};
 ghost use Rattle.forest.specs.Slices.{KeysRise};
@@ -18,20 +18,6 @@ pub enum Way {
     Key(u32),
     First,
     Last,
-}
-
-// What a look at a cursor sees.
-#[derive(Clone, Copy)]
-pub enum Look {
-    Pair(u32, u32),
-    Nothing,
-}
-
-// The level where a path can branch off.
-#[derive(Clone, Copy)]
-pub enum Branch {
-    At(usize),
-    Nothing,
 }
 
 // Where a path ends: the leaf, and the place in it.
@@ -56,44 +42,39 @@ pub fn off_end(tree: u32) -> Cursor
 }
 
 // One level more.
-pub fn push(c: Cursor, node: u32, place: usize) -> Cursor
+#[tactic(auto, unfolding(crate::specs::Levels::pushed))]
+pub fn push(mut c: Cursor, node: u32, place: usize) -> Cursor
     requires { (c.size < 16) × (place < 16) }
     ensures { result ≡ pushed c node place }
 {
     let l = c.size as usize;
-    let mut out = c;
-    out.nodes[l] = node;
-    out.places[l] = place as u32;
-    out.size = c.size + 1;
-    out
+    c.nodes[l] = node;
+    c.places[l] = place as u32;
+    c.size += 1;
+    c
 }
 
-// The first l words, and zeros.
-fn front(xs: [u32; 16], l: usize) -> [u32; 16]
-    requires { l ≤ 16 }
-    ensures { result ≡ pad most_levels (take l xs) }
+// The l words of xs from place `from` on, then zeros.
+pub fn part(xs: [u32; 16], from: usize, l: usize) -> [u32; 16]
+    requires { from + l ≤ 16 }
+    ensures { result ≡ pad most_levels (take l (drop from xs)) }
 {
     let mut out = [0u32; 16];
-    let mut i: usize = 0;
-    while i < l {
-        out[i] = xs[i];
-        i += 1;
-    }
+    out[..l].copy_from_slice(&xs[from..from + l]);
     out
 }
 
 // The first l levels alone.
+#[tactic(auto, unfolding(crate::specs::Levels::cut_at))]
 pub fn cut(c: Cursor, l: usize) -> Cursor
     requires { l ≤ 16 }
     ensures { result ≡ cut_at c l }
 {
-    let ns = c.nodes;
-    let ps = c.places;
     Cursor {
         tree: c.tree,
         size: l as u32,
-        nodes: front(ns, l),
-        places: front(ps, l),
+        nodes: part(c.nodes, 0, l),
+        places: part(c.places, 0, l),
     }
 }
 
@@ -188,58 +169,44 @@ pub fn first(ws: &[u32], t: usize, tree: u32) -> Cursor
 // Where a cursor stands
 
 // The deepest level above `level` with more to the right.
-pub fn right_sibling_branch_level(ws: &[u32], t: usize, c: Cursor, level: usize) -> Branch
+pub fn right_sibling_branch_level(ws: &[u32], t: usize, c: Cursor, level: usize) -> Option<usize>
     requires { Safe ws.now t c level }
     ensures { result ≡ right_branch ws.now t c.nodes c.places level }
 {
-    let mut l = level;
-    while l > 0 {
-        l -= 1;
-        let b = t + 16 * (c.nodes[l] as usize) - 14;
-        if c.places[l] + 16 < ws[b] {
-            return Branch::At(l);
-        }
-    }
-    Branch::Nothing
+    (0..level).rposition(|l| c.places[l] + 16 < ws[t + 16 * (c.nodes[l] as usize) - 14])
 }
 
 // The deepest level above `level` with something to the left.
-pub fn left_sibling_branch_level(c: Cursor, level: usize) -> Branch
+pub fn left_sibling_branch_level(c: Cursor, level: usize) -> Option<usize>
     requires { level ≤ 16 }
     ensures { result ≡ left_branch c.places level }
 {
-    let mut l = level;
-    while l > 0 {
-        l -= 1;
-        if c.places[l] != 0 {
-            return Branch::At(l);
-        }
-    }
-    Branch::Nothing
+    c.places[..level].iter().rposition(|&place| place != 0)
 }
 
 // What stands at place e of leaf n.
-pub fn look_in(ws: &[u32], t: usize, n: u32, e: usize) -> Look
+#[tactic(auto, unfolding(crate::specs::Cores::look_in))]
+pub fn look_in(ws: &[u32], t: usize, n: u32, e: usize) -> Option<(u32, u32)>
     requires leaf_in { LeafIn ws.now t n }
     requires e_bound { e ≤ 7 }
     ensures { result ≡ look_in ws.now t n e }
 {
     let b = t + 16 * (n as usize) - 14;
     if e + 32 < ws[b] as usize {
-        return Look::Pair(ws[b + 1 + e], ws[b + 8 + e]);
+        return Some((ws[b + 1 + e], ws[b + 8 + e]));
     }
-    Look::Nothing
+    None
 }
 
 // What stands where a cursor stands.
-pub fn look_at(ws: &[u32], t: usize, c: Cursor) -> Look
+pub fn look_at(ws: &[u32], t: usize, c: Cursor) -> Option<(u32, u32)>
     requires ready { Ready ws.now t c.tree }
     requires standing { Standing ws.now c }
     ensures { Sees ws.now c result }
 {
     let size = c.size as usize;
     if size == 0 {
-        return Look::Nothing;
+        return None;
     }
     let node = c.nodes[size - 1];
     let entry = c.places[size - 1] as usize;
@@ -283,13 +250,13 @@ pub fn find_leaf(ws: &[u32], t: usize, tree: u32, key: u32) -> Foot
 }
 
 // What stands at the place of a key, as a look at the cursor that `find` makes sees it.
-pub fn look_for(ws: &[u32], t: usize, tree: u32, key: u32) -> Look
+pub fn look_for(ws: &[u32], t: usize, tree: u32, key: u32) -> Option<(u32, u32)>
     requires { Ready ws.now t tree }
     ensures { Looks key ws.now tree result }
 {
     let root = ws[1 + tree as usize];
     if root == 0 {
-        return Look::Nothing;
+        return None;
     }
     let foot = find_leaf(ws, t, tree, key);
     look_in(ws, t, foot.node, foot.place)

@@ -5,8 +5,8 @@ use mathlib.Core.Bool.{true, false, true≢false}
 use Prim.Native.Nat.{ℕ, ◌+◌, ◌-◌, ◌≤◌, ◌<◌}
 use native.Mathlib.Omega.{arith}
 use lib.ListN.{length, get_or}
-use lib.Dec.{leb, eqb}
-use borrow.Author.Tests.{eq-eqb, ne_eqb, eqb-true, eqb-false, leb-true}
+use lib.Dec.{eqb}
+use borrow.Author.Tests.{eqb-true, eqb-false, leb-true}
 use Rattle.forest.specs.Rows.{items_at}
 use Rattle.forest.specs.Pools.{Pool, WellFormed, encode, leaf_words}
 use Rattle.forest.specs.Cursors.{cursor_at, seek, move, to_remove}
@@ -25,21 +25,7 @@ use Rattle.remove.proofs.StartLaws.{Begun, begun, size_is, place0}
 use Rattle.remove.proofs.LastLaws.{n_is}
 use Rattle.remove.proofs.OnlyLaws
 
--- the test of only_leaf: r is the root
-module _ (ws : List ℕ) (t tree n e r : ℕ) (h : r ≡ get_or ws (tree + 1) 0) where
-  pub by_root : r ≡ n → leb 34 (get_or ws (base t n) 0) ≡ only_leaf ws t tree n e
-  unfolding only_leaf
-  by_root q = simp (eq-eqb (get_or ws (tree + 1) 0) n (sym h ∙ q))
-
-  pub at_front : (r ≡ n → ⊥) → e ≡ 0 → false ≡ only_leaf ws t tree n e
-  unfolding only_leaf
-  at_front q z = simp (ne_eqb (get_or ws (tree + 1) 0) n (λ k. q (h ∙ k)), eq-eqb e 0 z)
-
-  pub by_count : (r ≡ n → ⊥) → (e ≡ 0 → ⊥) → leb 37 (get_or ws (base t n) 0) ≡ only_leaf ws t tree n e
-  unfolding only_leaf
-  by_count q z = simp (ne_eqb (get_or ws (tree + 1) 0) n (λ k. q (h ∙ k)), ne_eqb e 0 z)
-
--- and what a yes says
+-- what a yes of only_leaf says
 module _ (ws : List ℕ) (t tree n e : ℕ) (u : only_leaf ws t tree n e ≡ true) where
   if_root : eqb (get_or ws (tree + 1) 0) n ≡ true → 34 ≤ get_or ws (base t n) 0
   unfolding only_leaf

@@ -4,7 +4,6 @@ pub mod HealPool
 pub mod HealDone
 pub mod HealRemove
 pub mod ShrinkLaws
-pub mod ShiftLaws
 pub mod PathLists
 pub mod StartLaws
 pub mod EndLaws

@@ -21,31 +21,18 @@ fn shrink_root(ws: &mut [u32], t: usize, root: u32, levels: usize) -> Top
     ensures { Shrinks ws.old ws.new t root levels result }
 {
     let mut n = root;
-    let mut gone = 0;
-    while gone < levels {
+    for gone in 0..levels {
         let w = pool::load(ws, t, n);
         if w[0] != 16 {
             return Top { root: n, gone };
         }
         pool::free_node(ws, t, n);
         n = w[8];
-        gone += 1;
     }
-    Top { root: n, gone }
-}
-
-// The `n` words of `a` from place `from` on, then zeros.
-fn part(a: [u32; 16], from: usize, n: usize) -> [u32; 16]
-    requires { from + n ≤ 16 }
-    ensures { result ≡ pad 16 (take n (drop from a)) }
-{
-    let mut out = [0u32; 16];
-    let mut i = 0;
-    while i < n {
-        out[i] = a[from + i];
-        i += 1;
+    Top {
+        root: n,
+        gone: levels,
     }
-    out
 }
 
 // The path without its first `gone` levels, the unused ones zero.
@@ -54,22 +41,15 @@ fn shift_path(c: Cursor, gone: usize) -> Cursor
     ensures { result ≡ shifted c gone }
 {
     let old = c.size as usize;
-    let nodes = c.nodes;
-    let places = c.places;
     if old < gone {
-        return Cursor {
-            tree: c.tree,
-            size: 0,
-            nodes: [0u32; 16],
-            places: [0u32; 16],
-        };
+        return path::off_end(c.tree);
     }
     let size = old - gone;
     Cursor {
         tree: c.tree,
         size: size as u32,
-        nodes: part(nodes, gone, size),
-        places: part(places, gone, size),
+        nodes: path::part(c.nodes, gone, size),
+        places: path::part(c.places, gone, size),
     }
 }
 
@@ -81,12 +61,7 @@ fn remove_last(ws: &mut [u32], t: usize, c: Cursor) -> Cursor
     let n = c.nodes[0];
     pool::free_node(ws, t, n);
     pool::set_root(ws, c.tree, 0);
-    Cursor {
-        tree: c.tree,
-        size: 0,
-        nodes: [0u32; 16],
-        places: [0u32; 16],
-    }
+    path::off_end(c.tree)
 }
 
 // Is the pair that the cursor is on the only one of its tree?
@@ -94,12 +69,7 @@ fn is_last(ws: &[u32], t: usize, c: Cursor) -> bool
     requires { AskRemove ws.now t c }
     ensures { Lone ws.now c result }
 {
-    if c.size != 1 {
-        return false;
-    }
-    let n = c.nodes[0];
-    let w = pool::load(ws, t, n);
-    w[0] == 33
+    c.size == 1 && pool::load(ws, t, c.nodes[0])[0] == 33
 }
 
 // Removes the pair that the cursor is on, and moves to the next pair; the words are those of the tree without it.
@@ -119,6 +89,7 @@ pub fn remove(ws: &mut [u32], t: usize, c: Cursor) -> Cursor
 }
 
 // The word at `at` goes: those behind it, before `end`, move up, and a 0 comes last.
+#[tactic(auto, using(crate::proofs::GapLaws::closes))]
 fn close_up(ws: &mut [u32], at: usize, end: usize)
     requires { (at < end) × (end ≤ length ws.old) }
     ensures { ws.new ≡ closed ws.old at end }
@@ -128,17 +99,19 @@ fn close_up(ws: &mut [u32], at: usize, end: usize)
 }
 
 // Takes the pair at place `at` out of leaf n, in place.
+#[tactic(auto, using(crate::proofs::GapLaws::took))]
 fn take_out(ws: &mut [u32], t: usize, n: u32, at: usize)
     requires { LeafPair ws.old t n at }
     ensures { ws.new ≡ less_words ws.old t n at }
 {
     let b = t + 16 * (n as usize) - 14;
-    ws[b] = ws[b] - 1;
+    ws[b] -= 1;
     close_up(ws, b + 1 + at, b + 8);
     close_up(ws, b + 8 + at, b + 16);
 }
 
 // Does leaf n alone change where the pair at place `at` goes?
+#[tactic(auto, unfolding(crate::specs::Keys::only_leaf))]
 fn only_leaf(ws: &[u32], t: usize, tree: u32, n: u32, at: usize) -> bool
     requires leaf_pair { LeafPair ws.now t n at }
     requires tree_in_bounds { tree + 1 < length ws.now }
@@ -148,10 +121,7 @@ fn only_leaf(ws: &[u32], t: usize, tree: u32, n: u32, at: usize) -> bool
     if pool::root(ws, tree) == n {
         return 34 <= ws[b];
     }
-    if at == 0 {
-        return false;
-    }
-    37 <= ws[b]
+    at != 0 && 37 <= ws[b]
 }
 
 // Removes the pair of a key, at place `at` of leaf n; where that leaf alone changes no path is made.

@@ -35,12 +35,12 @@ pub returns-then-k-key : goal.returns-then-k-key
 returns-then-k-key c =
     let y = c.gate.ensures.passes c.in-Open.t c.in-Open.is in
     let o = ends_looks c.args.ws.now _ c.args.tree y c.args.key _ _ c.find_leaf-foot.ensures in
-    absent_calls c.args.ws.now _ c.args.tree c.args.key y _ o (sym (held_other _ _ _ _ (sym c.look_in-look.ensures ∙ c.in-Pair.is) c.if-k-key.true))
+    absent_calls c.args.ws.now _ c.args.tree c.args.key y _ o (sym (held_other _ _ _ _ (sym c.look_in-look.ensures ∙ c.in-Some.is) c.if-k-key.true))
 
 pub remove_key-requires : goal.remove_key-requires
 remove_key-requires c =
     let y = c.gate.ensures.passes c.in-Open.t c.in-Open.is in
-    ask_key c.args.ws.now _ c.args.tree c.args.key _ _ y c.find_leaf-foot.ensures _ _ (sym c.look_in-look.ensures ∙ c.in-Pair.is)
+    ask_key c.args.ws.now _ c.args.tree c.args.key _ _ y c.find_leaf-foot.ensures _ _ (sym c.look_in-look.ensures ∙ c.in-Some.is)
 
 pub returns-in-Shut : goal.returns-in-Shut
 returns-in-Shut c =
@@ -50,4 +50,4 @@ pub returns-else-k-key : goal.returns-else-k-key
 returns-else-k-key c =
     let y = c.gate.ensures.passes c.in-Open.t c.in-Open.is in
     let o = ends_looks c.args.ws.now _ c.args.tree y c.args.key _ _ c.find_leaf-foot.ensures in
-    removed-calls c.args.ws.now _ c.args.tree c.args.key y _ o _ _ (sym c.look_in-look.ensures ∙ c.in-Pair.is) c.if-k-key.false _ c.remove_key.ensures
+    removed-calls c.args.ws.now _ c.args.tree c.args.key y _ o _ _ (sym c.look_in-look.ensures ∙ c.in-Some.is) c.if-k-key.false _ c.remove_key.ensures

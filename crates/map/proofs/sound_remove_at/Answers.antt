@@ -15,9 +15,9 @@ returns-in_default c =
 pub remove-c-requires : goal.remove-c-requires
 remove-c-requires c =
     let y = stood_ready c.args.ws.now c.args.at _ c.requires c.tree_count-t.ensures in
-    ask_remove c.args.ws.now _ c.args.at y c.requires.standing _ c.look_at-look.ensures _ _ c.in-Pair.is
+    ask_remove c.args.ws.now _ c.args.at y c.requires.standing _ c.look_at-look.ensures _ _ c.in-Some.is
 
 pub returns : goal.returns
 returns c =
     let y = stood_ready c.args.ws.now c.args.at _ c.requires c.tree_count-t.ensures in
-    removed_moves c.args.ws.now _ c.args.at y c.requires.standing _ c.look_at-look.ensures _ _ c.in-Pair.is _ _ c.remove-c.ensures
+    removed_moves c.args.ws.now _ c.args.at y c.requires.standing _ c.look_at-look.ensures _ _ c.in-Some.is _ _ c.remove-c.ensures

@@ -12,21 +12,21 @@ returns-in_default c =
 
 pub offset_bounds-c-l : goal.offset_bounds-c-l
 offset_bounds-c-l c =
-    let v = right_level c.args.ws.now c.args.t c.args.c c.requires.ready c.requires.standing c.requires.le_size _ _ c.right_sibling_branch_level.ensures c.in-At.is in
+    let v = right_level c.args.ws.now c.args.t c.args.c c.requires.ready c.requires.standing c.requires.le_size _ _ c.right_sibling_branch_level.ensures c.in-Some.is in
     omega (arith, v.0.above)
 
 pub bounds-c-l : goal.bounds-c-l
 bounds-c-l c =
-    let v = right_level c.args.ws.now c.args.t c.args.c c.requires.ready c.requires.standing c.requires.le_size _ _ c.right_sibling_branch_level.ensures c.in-At.is in
+    let v = right_level c.args.ws.now c.args.t c.args.c c.requires.ready c.requires.standing c.requires.le_size _ _ c.right_sibling_branch_level.ensures c.in-Some.is in
     omega (arith, v.0.above)
 
 pub branch_off-requires : goal.branch_off-requires
-branch_off-requires c = let v = right_level c.args.ws.now c.args.t c.args.c c.requires.ready c.requires.standing c.requires.le_size _ _ c.right_sibling_branch_level.ensures c.in-At.is in record {
+branch_off-requires c = let v = right_level c.args.ws.now c.args.t c.args.c c.requires.ready c.requires.standing c.requires.le_size _ _ c.right_sibling_branch_level.ensures c.in-Some.is in record {
   level = v.0;
   place_bound = v.1;
 }
 
 pub returns : goal.returns
 returns c =
-    let v = right_level c.args.ws.now c.args.t c.args.c c.requires.ready c.requires.standing c.requires.le_size _ _ c.right_sibling_branch_level.ensures c.in-At.is in
-    next_some c.args.ws.now c.args.t c.args.c c.requires.ready c.requires.le_size _ _ _ c.right_sibling_branch_level.ensures c.in-At.is v.2 c.branch_off.ensures
+    let v = right_level c.args.ws.now c.args.t c.args.c c.requires.ready c.requires.standing c.requires.le_size _ _ c.right_sibling_branch_level.ensures c.in-Some.is in
+    next_some c.args.ws.now c.args.t c.args.c c.requires.ready c.requires.le_size _ _ _ c.right_sibling_branch_level.ensures c.in-Some.is v.2 c.branch_off.ensures

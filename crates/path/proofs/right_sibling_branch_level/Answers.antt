@@ -1,26 +1,20 @@
-use mathlib.Core.Path.{sym, ◌∙◌}
-use mathlib.Core.List.{List}
-use Prim.Native.Nat.{ℕ, ◌+◌, ◌≤◌}
-use native.Mathlib.Omega.{arith}
-use lib.ListN.{length}
-use Rattle.path.specs.Ways.{base}
-use Rattle.path.proofs.Branches.{right_here, right_on, right_end}
+-- `path::right_sibling_branch_level` meets its contract: the level that is found is the last with more to the right. Assumes nothing.
+use Rattle.std.proofs.Common.{rules, ◌≡◌, ◌-◌}
+use Rattle.std.proofs.iter.runs.Sources.{ranges}
+use Rattle.std.specs.Prelude.{Some}
+use borrow.Author.Tests.{lt-ltb}
+use Rattle.path.proofs.Steps.{first_word}
+use Rattle.path.proofs.Branches.{right_is}
 use Rattle.path.proofs.right_sibling_branch_level.Goals as goal
-
--- node n lies in the words
-abbrev InWords : List ℕ → ℕ → ℕ → Type 0
-InWords ws t n = (1 ≤ n) × (n ≤ 512) × (base t n + 16 ≤ length ws)
-
-pub returns-then-c-l : goal.returns-then-c-l
-returns-then-c-l c =
-    let l = c.loop-l.l in
-    sym (right_here c.args.ws.now c.args.t c.args.c.nodes c.args.c.places l (omega arith) c.if-c-l.true) ∙ c.loop-l.invariant.1
-
-pub loop-l-preserved : goal.loop-l-preserved
-loop-l-preserved c =
-    let l = c.loop-l.l in
-    (omega arith, sym (right_on c.args.ws.now c.args.t c.args.c.nodes c.args.c.places l (omega arith) c.if-c-l.false) ∙ c.loop-l.invariant.1)
 
 pub returns : goal.returns
 returns c =
-    sym (right_end c.args.ws.now c.args.t c.args.c.nodes c.args.c.places c.loop-l.l (omega arith)) ∙ c.loop-l.invariant.1
+    right_is c.args.ws.now c.args.t c.args.c.nodes c.args.c.places c.args.level c.rposition.result
+    record {
+      none = λ e k h. rw first_word (search (rules, ranges));
+      within = λ i e. search (rules, ranges);
+      here = λ i e.
+          let w : c.rposition.ensures.runs.0.at (c.args.level - 0 - 1 - i) ≡ Some i = search (rules, ranges) in
+          rw first_word (lt-ltb _ _ (search rules));
+      after = λ i e k m h. rw first_word (search (rules, ranges));
+    }

@@ -18,4 +18,4 @@ pub loop-gone-preserved : goal.loop-gone-preserved
 loop-gone-preserved c = (ShrinkLaws.going_on c.loop-gone.invariant.0 c.load-w.result _ (omega arith) c.load-w.ensures c.if-w-ne16.false c.free_node.ensures, search rules)
 
 pub returns : goal.returns
-returns c = ShrinkLaws.going_end c.loop-gone.invariant.0 _ (omega arith) refl refl
+returns c = ShrinkLaws.going_end c.loop-gone.invariant.0 _ (omega arith) refl (omega arith)

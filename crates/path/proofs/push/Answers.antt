@@ -1,7 +1,0 @@
-use Rattle.path.specs.Levels.{pushed}
-use borrow.Author.Rules.{rules}
-use Rattle.path.proofs.push.Goals as goal
-
-pub returns : goal.returns
-unfolding pushed
-returns c = search rules
