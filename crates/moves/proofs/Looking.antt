@@ -2,52 +2,28 @@
 use mathlib.Core.Path.{◌≡◌, refl, sym, ap, ◌∙◌}
 use mathlib.Core.List.{List}
 use mathlib.Core.Bool.{true, false, true≢false}
-use mathlib.Core.Option.{Option, none, some}
 use Prim.Native.Nat.{ℕ, zero, suc, ◌-◌, ◌≤◌}
 use native.Mathlib.Omega.{arith}
 use lib.ListN.{get_or}
 use lib.Dec.{ltb, eqb}
 use borrow.Author.Tests.{lt-ltb, le-ltb, eq-eqb, ne_eqb, eqb-true, ltb-true}
-use Rattle.forest.specs.Pairs.{Item}
 use Rattle.forest.specs.Rows.{Row}
 use Rattle.forest.specs.Pools.{Pool, tree_of}
 use Rattle.forest.specs.Cursors.{Spot, off, on, leaves, pair_at, prev, prev_pair, path_of, cursor_at}
-use Rattle.forest.specs.Answers.{told}
+use Rattle.forest.specs.Answers.{told, nothing}
 use Rattle.forest.specs.declared.Cursor.{Cursor}
 use Rattle.forest.specs.declared.Moved.{Moved}
-use Rattle.forest.specs.declared.Reply.TheVariants as reply
 use Rattle.forest.proofs.ListLaws.{is, isnt, test, tests}
 use Rattle.path.specs.Levels.{left_branch, no_branch}
 use Rattle.path.specs.declared.Branch.{Branch}
 use Rattle.path.specs.declared.Branch.TheVariants as branch
-use Rattle.path.specs.Cores.{Ready, Of, At, Sees, look_of}
-use Rattle.path.specs.declared.Look.{Look}
-use Rattle.path.specs.declared.Look.TheVariants.{Pair, Nothing}
+use Rattle.path.specs.Cores.{Ready, Of, At}
 use Rattle.path.proofs.Branches.{none_at}
 use Rattle.path.proofs.Seats.{off_is, Seat, seat, leaf_place}
 use Rattle.moves.specs.Moves.{at_first, Steps, Seen, Back}
 use Rattle.moves.proofs.Neighbours.{no_left, prev_left}
 use Rattle.moves.proofs.Moving.{moved_tree, moved_at}
 use Rattle.forest.proofs.CursorCalls.{fits-prev}
-
--- a look as an answer
-pub pair_told : (o : Option Item) (k v : ℕ) → Pair k v ≡ look_of o → reply.Pair k v ≡ told o
-pair_told none k v e = absurd (let z : ◌≡◌ {A = ℕ} 0 1 = cc in omega arith)
-pair_told (some x) k v e =
-    let a : k ≡ x.0 = cc in
-    let b : v ≡ x.1 = cc in
-    λ i. reply.Pair (a i) (b i)
-
-pub none_told : (o : Option Item) → Nothing ≡ look_of o → reply.Nothing ≡ told o
-none_told none e = refl
-none_told (some x) e = absurd (let z : ◌≡◌ {A = ℕ} 0 1 = cc in omega arith)
-
-module _ (ws : List ℕ) (c : Cursor) (l : Look) (x : Sees ws c l) where
-  pub seen_pair : (k v : ℕ) → l ≡ Pair k v → Seen ws c (record { reply = reply.Pair k v; cursor = c })
-  seen_pair k v e = record { cursor = refl; pair = λ p s o a. pair_told (pair_at (leaves (tree_of p c.tree)) s) k v (sym e ∙ x.sees p s o a) }
-
-  pub seen_none : l ≡ Nothing → Seen ws c (record { reply = reply.Nothing; cursor = c })
-  seen_none e = record { cursor = refl; pair = λ p s o a. none_told (pair_at (leaves (tree_of p c.tree)) s) (sym e ∙ x.sees p s o a) }
 
 -- at the first entry
 
@@ -112,7 +88,7 @@ module _ (ws : List ℕ) (t : ℕ) (c : Cursor) (y : Ready ws t c.tree) where
   other_pair e p (on j (suc k)) o a L = refl
 
   -- prev gives none there, and the cursor stays
-  pub back_first : at_first c ≡ true → Back ws c (record { reply = reply.Nothing; cursor = c })
+  pub back_first : at_first c ≡ true → Back ws c (record { reply = nothing; cursor = c })
   back_first e = record {
     cursor = record {
       to = λ p s o a.
@@ -124,13 +100,12 @@ module _ (ws : List ℕ) (t : ℕ) (c : Cursor) (y : Ready ws t c.tree) where
   }
 
   -- elsewhere it gives the pair that the moved cursor is on
-  pub back_seen : at_first c ≡ false → (d : Cursor) (l : Look) (r : Moved) → Steps prev ws c d → Sees ws d l → r.cursor ≡ d →
-      ((o : Option Item) → l ≡ look_of o → r.reply ≡ told o) → Back ws c r
-  back_seen e d l r x z q g = record {
-    cursor = rw q x;
+  pub back_seen : at_first c ≡ false → (d : Cursor) (r : Moved) → Steps prev ws c d → Seen ws d r → Back ws c r
+  back_seen e d r x z = record {
+    cursor = rw z.cursor x;
     pair = λ p s o a.
         let b = moved_at prev fits-prev ws c d x p s o a in
         let k = moved_tree prev fits-prev ws c d x p s o a in
-        g (pair_at (leaves (tree_of p d.tree)) (prev (leaves (tree_of p c.tree)) s)) (z.sees p (prev (leaves (tree_of p c.tree)) s) o b) ∙
+        z.pair p (prev (leaves (tree_of p c.tree)) s) o b ∙
         ap (λ (n : ℕ). told (pair_at (leaves (tree_of p n)) (prev (leaves (tree_of p c.tree)) s))) k ∙ ap told (sym (other_pair e p s o a (leaves (tree_of p c.tree))));
   }

@@ -10,7 +10,7 @@ ghost use Rattle.path.specs.Levels.{extended};
 ghost use Rattle.path.specs.Cores.{Ready, Standing};
 ghost use Rattle.moves.specs.Moves.{Level, branched, entered, at_first, Steps, Seen, Back, next_leaf, prev_leaf};
 
-use forest::{Cursor, Moved, Reply};
+use forest::{Cursor, Hit, Moved};
 use path::{Branch, Look, Way};
 
 // Keep the levels above level l, take another child there, and go down.
@@ -170,16 +170,11 @@ pub fn seen(ws: &[u32], t: usize, c: Cursor) -> Moved
     requires standing { Standing ws.now c }
     ensures { Seen ws.now c result }
 {
-    match path::look_at(ws, t, c) {
-        Look::Pair(key, value) => Moved {
-            reply: Reply::Pair(key, value),
-            cursor: c,
-        },
-        Look::Nothing => Moved {
-            reply: Reply::Nothing,
-            cursor: c,
-        },
-    }
+    let reply = match path::look_at(ws, t, c) {
+        Look::Pair(key, value) => Ok(Some(Hit::Pair(key, value))),
+        Look::Nothing => Ok(None),
+    };
+    Moved { reply, cursor: c }
 }
 
 // Go to the pair before and give it; on the first pair none.
@@ -190,19 +185,10 @@ pub fn prev(ws: &[u32], t: usize, c: Cursor) -> Moved
 {
     if at_first_entry(c) {
         return Moved {
-            reply: Reply::Nothing,
+            reply: Ok(None),
             cursor: c,
         };
     }
     let d = step_back(ws, t, c);
-    let Look::Pair(key, value) = path::look_at(ws, t, d) else {
-        return Moved {
-            reply: Reply::Nothing,
-            cursor: d,
-        };
-    };
-    Moved {
-        reply: Reply::Pair(key, value),
-        cursor: d,
-    }
+    seen(ws, t, d)
 }

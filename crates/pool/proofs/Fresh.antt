@@ -8,11 +8,12 @@ use lib.ListN.{length, take, get_or, set, replicate, length-append, length-repli
 use lib.Seq.{take-length, paste, paste-zero}
 use lib.Dec.{eqb}
 use borrow.Author.Tests.{le-leb, lt-leb}
+use Rattle.std.specs.Prelude.{Err}
+use Rattle.forest.specs.Answers.{nothing}
 use Rattle.forest.specs.Sizes.{most_trees, most_nodes}
 use Rattle.forest.specs.Lists.{pad}
 use Rattle.forest.specs.Rows.{Tree}
 use Rattle.forest.specs.declared.Refusal.TheVariants.{NoFormat}
-use Rattle.forest.specs.declared.Reply.TheVariants.{Nothing, Refused}
 use Rattle.forest.specs.Pools.{in_trees, node_words, nodes_from, root, encode, fresh, fresh_stack, formatted, format_words, format_answer, Sound}
 use Rattle.forest.proofs.CountLaws.{format_in, fresh_sound}
 use Rattle.pool.specs.Stores.{patched, down}
@@ -164,7 +165,7 @@ module _ (T N : ℕ) (ws : List ℕ) where
   unfolding format_words
   format_words_lem h = simp h
 
-  pub format_nothing : formatted T N (length ws) ≡ true → Nothing ≡ format_answer T N ws
+  pub format_nothing : formatted T N (length ws) ≡ true → nothing ≡ format_answer T N ws
   unfolding format_answer
   format_nothing h = simp h
 
@@ -172,7 +173,7 @@ module _ (T N : ℕ) (ws : List ℕ) where
   unfolding format_words
   format_kept h = simp h
 
-  pub format_refused : formatted T N (length ws) ≡ false → Refused NoFormat ≡ format_answer T N ws
+  pub format_refused : formatted T N (length ws) ≡ false → Err NoFormat ≡ format_answer T N ws
   unfolding format_answer
   format_refused h = simp h
 

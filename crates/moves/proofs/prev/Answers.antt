@@ -1,9 +1,9 @@
-use mathlib.Core.Path.{refl, sym, ◌∙◌}
+use mathlib.Core.Path.{sym, ◌∙◌}
 use native.Mathlib.Omega.{arith}
 use Rattle.forest.specs.Cursors.{prev}
 use Rattle.moves.proofs.Neighbours.{standing-size}
 use Rattle.moves.proofs.Moving.{moved-standing, moved_ready}
-use Rattle.moves.proofs.Looking.{pair_told, back_first, back_seen}
+use Rattle.moves.proofs.Looking.{back_first, back_seen}
 use Rattle.forest.proofs.CursorCalls.{fits-prev}
 use Rattle.moves.proofs.prev.Goals as goal
 
@@ -15,12 +15,12 @@ pub returns-then-at_first_entry : goal.returns-then-at_first_entry
 returns-then-at_first_entry c =
     back_first c.args.ws.now c.args.t c.args.c c.requires.ready (sym c.at_first_entry.ensures ∙ c.if-at_first_entry.true)
 
-pub look_at-requires : goal.look_at-requires
-look_at-requires c = record {
+pub seen-requires : goal.seen-requires
+seen-requires c = record {
   ready = moved_ready prev fits-prev c.args.ws.now c.args.c c.step_back-d.result c.step_back-d.ensures c.args.t c.requires.ready c.requires.standing;
   standing = moved-standing prev fits-prev c.args.ws.now c.args.c c.step_back-d.result c.step_back-d.ensures c.requires.standing;
 }
 
 pub returns : goal.returns
 returns c =
-    back_seen c.args.ws.now c.args.t c.args.c c.requires.ready (sym c.at_first_entry.ensures ∙ c.if-at_first_entry.false) _ _ _ c.step_back-d.ensures c.look_at.ensures refl (λ o e. pair_told o _ _ (cc))
+    back_seen c.args.ws.now c.args.t c.args.c c.requires.ready (sym c.at_first_entry.ensures ∙ c.if-at_first_entry.false) _ _ c.step_back-d.ensures c.seen.ensures
