@@ -10,14 +10,14 @@ use lib.ListN.{length, drop, get_or, set, length-drop}
 use lib.Seq.{set-get_or}
 use lib.Dec.{ltb, leb}
 use borrow.Author.Tests.{ltb-true, ltb-false, leb-true, leb-false}
+use Rattle.std.specs.Prelude.{Err}
 use Rattle.forest.specs.Lists.{count}
 use Rattle.forest.specs.Pairs.{has}
 use Rattle.forest.specs.Rows.{Tree, Good}
 use Rattle.forest.specs.Trees.{pairs, numbers, leaf_items, need, remove_tree, freed, get_tree}
 use Rattle.forest.specs.declared.Refusal.{Refusal}
 use Rattle.forest.specs.declared.Refusal.TheVariants.{NoTree, NoRoom}
-use Rattle.forest.specs.declared.Reply.TheVariants.{Nothing, Refused}
-use Rattle.forest.specs.Answers.{held, kept}
+use Rattle.forest.specs.Answers.{held, kept, nothing}
 use Rattle.forest.specs.Pools.{Pool, used, WellFormed, node_words, encode, root, tree_of, push_all, Call, put, remove, get, target, after, takes, frees, refused, done, call}
 use Rattle.forest.proofs.ListLaws.{is, isnt, test, total-length}
 use Rattle.forest.proofs.Reasons.{passes, stops, verdict, number}
@@ -72,20 +72,20 @@ four_exactly t k v p h = ((judged (put t k v) p).four_above, refused_four (put t
 
 -- and the answer says so
 pub room_exactly : (t k v : ℕ) (p : Pool) → t < length p.trees →
-    ((call (put t k v) p).answer ≡ Refused NoRoom → length p.free < need 7 k (tree_of p t)) ×
-    (length p.free < need 7 k (tree_of p t) → (call (put t k v) p).answer ≡ Refused NoRoom)
+    ((call (put t k v) p).answer ≡ Err NoRoom → length p.free < need 7 k (tree_of p t)) ×
+    (length p.free < need 7 k (tree_of p t) → (call (put t k v) p).answer ≡ Err NoRoom)
 room_exactly t k v p h = (
   λ e. (four_exactly t k v p h).0 (told e),
   λ g. ap (λ d. d.answer) (call-refused (put t k v) p NoRoom ((four_exactly t k v p h).1 g)),
 )
   where
-    told : (call (put t k v) p).answer ≡ Refused NoRoom → refused (put t k v) p ≡ some NoRoom
+    told : (call (put t k v) p).answer ≡ Err NoRoom → refused (put t k v) p ≡ some NoRoom
     told e = elim (verdict (refused (put t k v) p)) [
       | passes f ↦
-          let d : held (get_tree k (tree_of p t)) ≡ Refused NoRoom = ap (λ d. d.answer) (sym (call-done (put t k v) p f)) ∙ e in
+          let d : held (get_tree k (tree_of p t)) ≡ Err NoRoom = ap (λ d. d.answer) (sym (call-done (put t k v) p f)) ∙ e in
           absurd (true≢false (sym (held_kept (get_tree k (tree_of p t))) ∙ ap kept d))
       | stops x f ↦
-          let d : Refused x ≡ Refused NoRoom = ap (λ d. d.answer) (sym (call-refused (put t k v) p x f)) ∙ e in
+          let d : Err x ≡ Err NoRoom = ap (λ d. d.answer) (sym (call-refused (put t k v) p x f)) ∙ e in
           let y : x ≡ NoRoom = cc in
           f ∙ ap some y
     ]
@@ -124,7 +124,7 @@ module _ (m : ℕ) (lo : 1 ≤ m) where
 
   -- a remove of an absent key
   pub remove_absent : (t k : ℕ) (p : Pool) → WellFormed m p → t < length p.trees → has k (pairs (tree_of p t)) ≡ false →
-      call (remove t k) p ≡ record { answer = Nothing; pool = p }
+      call (remove t k) p ≡ record { answer = nothing; pool = p }
   unfolding done
   remove_absent t k p h there e =
       let a = absent_tree k (tree_of p t) (good_at m p.trees t h.good) e in

@@ -9,13 +9,13 @@ use native.Mathlib.Omega.{arith}
 use lib.ListN.{length, take, get_or}
 use lib.Dec.{ltb, leb}
 use borrow.Author.Tests.{lt-ltb, le-ltb, ltb-true}
+use Rattle.std.specs.Prelude.{Err}
 use Rattle.forest.specs.Lists.{sum}
 use Rattle.forest.specs.Pairs.{Item}
 use Rattle.forest.specs.Rows.{Row, Tree, sizes, Good}
 use Rattle.forest.specs.Trees.{leaf_of, leaf_items}
 use Rattle.forest.specs.declared.Cursor.{Cursor}
 use Rattle.forest.specs.declared.Refusal.{Refusal}
-use Rattle.forest.specs.declared.Reply.TheVariants.{Refused}
 use Rattle.forest.specs.Pools.{Pool, WellFormed, remove, tree_of}
 use Rattle.forest.specs.Cursors.{Spot, off, on, leaves, size_at, Fits, pair_at, leaf_start, seek, settle, next, prev, position, spot_at, Stands, spot_of, path_in, stands, Move, to_first, to_key, to_next, to_prev, to_settled, to_remove, reads, removed, left_pool, removed_spot, left_spot, blocked, move_from, move}
 use Rattle.forest.proofs.ListLaws.{is, isnt, test, tests, offset_lt}
@@ -96,7 +96,7 @@ fits-at L i = elim (test (ltb i (sum (sizes L)))) [
 ]
 
 -- a move that is refused changes nothing
-pub move-refused : (v : Move) (c : Cursor) (p : Pool) (x : Refusal) → blocked v c p ≡ some x → move v c p ≡ record { answer = Refused x; cursor = c; pool = p }
+pub move-refused : (v : Move) (c : Cursor) (p : Pool) (x : Refusal) → blocked v c p ≡ some x → move v c p ≡ record { answer = Err x; cursor = c; pool = p }
 unfolding move
 move-refused v c p x e = simp e
 

@@ -15,10 +15,8 @@ use Rattle.forest.specs.Rows.{Row, Tree, sizes, items_at, Good}
 use Rattle.forest.specs.Trees.{pairs}
 use Rattle.forest.specs.declared.Refusal.{Refusal}
 use Rattle.forest.specs.declared.Refusal.TheVariants.{NoTree, NoPlace}
-use Rattle.forest.specs.declared.Reply.{Reply}
-use Rattle.forest.specs.declared.Reply.TheVariants.{Nothing}
 use Rattle.forest.specs.declared.Cursor.{Cursor}
-use Rattle.forest.specs.Answers.{held, told}
+use Rattle.forest.specs.Answers.{held, told, Reply, nothing}
 use Rattle.forest.specs.Pools.{Pool, WellFormed, tree_of}
 use Rattle.forest.specs.Cursors.{Spot, off, on, leaves, size_at, Fits, pair_at, seek, settle, next, prev, prev_pair, position, spot_at, path_of, cursor_at, Stands, spot_of, path_in, stands, Move, to_first, to_key, to_next, to_prev, to_settled, tells, reads, left_pool, left_spot, Moved, blocked, move_from, move}
 use Rattle.forest.proofs.ListLaws.{is, isnt, test, tests, cons_eq, parent_start}
@@ -160,7 +158,7 @@ module _ (m : ℕ) (lo : 1 ≤ m) (hi : m ≤ 4) (p : Pool) (h : WellFormed m p)
       record { answers = g.answers ∙ ap held (pairs_get m 7 k lo (tree_of p c.tree) good); spot = g.spot }
 
   -- settle: the pair whose place the cursor has
-  pub settle_goes : blocked to_settled c p ≡ none → MovesTo (move to_settled c p) Nothing (spot_at (row p c) (rank p c))
+  pub settle_goes : blocked to_settled c p ≡ none → MovesTo (move to_settled c p) nothing (spot_at (row p c) (rank p c))
   settle_goes e =
       let g = goes to_settled e in
       record { answers = g.answers; spot = g.spot ∙ settle_any (row p c) (spot_in p c) some_leaves (fits_in to_settled e refl) }
@@ -191,7 +189,7 @@ module _ (m : ℕ) (lo : 1 ≤ m) (hi : m ≤ 4) (p : Pool) (h : WellFormed m p)
         spot = g.spot ∙ z;
       }
 
-  pub prev-first-goes : blocked to_prev c p ≡ none → rank p c ≡ 0 → MovesTo (move to_prev c p) Nothing (spot_in p c)
+  pub prev-first-goes : blocked to_prev c p ≡ none → rank p c ≡ 0 → MovesTo (move to_prev c p) nothing (spot_in p c)
   prev-first-goes e k =
       let g = goes to_prev e in
       let z = prev-at-first (row p c) (spot_in p c) some_leaves (fits_in to_prev e refl) k in
@@ -282,7 +280,7 @@ tell_tail : (n i : ℕ) (u : Item) (us : List Item) → tell_from n (suc i) (u �
 tell_tail zero i u us = refl
 tell_tail (suc n) i u us = ap (told (get_elem? us i) ∷◌) (tell_tail n (suc i) u us)
 
-tell_all : (us : List Item) → tell_from (suc (length us)) 0 us ≡ map (λ (y : Item). told (some y)) us ++ (Nothing ∷ [])
+tell_all : (us : List Item) → tell_from (suc (length us)) 0 us ≡ map (λ (y : Item). told (some y)) us ++ (nothing ∷ [])
 tell_all [] = refl
 tell_all (u ∷ us) = ap (told (some u) ∷◌) (tell_tail (suc (length us)) 0 u us ∙ tell_all us)
 
@@ -312,7 +310,7 @@ module _ (m : ℕ) (lo : 1 ≤ m) (hi : m ≤ 4) (p : Pool) (h : WellFormed m p)
       cons_eq g.answers (nexts_at n (suc i) d a.1 there' ∙ ap (λ (t : ℕ). tell_from n (suc (suc i)) (pairs (tree_of p t))) a.0)
 
   pub traversal : (c : Cursor) → blocked to_first c p ≡ none →
-      (move to_first c p).answer ∷ nexts (length (list p c)) (move to_first c p).cursor p ≡ map (λ (y : Item). told (some y)) (list p c) ++ (Nothing ∷ [])
+      (move to_first c p).answer ∷ nexts (length (list p c)) (move to_first c p).cursor p ≡ map (λ (y : Item). told (some y)) (list p c) ++ (nothing ∷ [])
   traversal c e =
       let d = (move to_first c p).cursor in
       let same : (move to_first c p).pool ≡ p = move-reads m lo hi to_first c p (λ z. let y : ◌≡◌ {A = ℕ} 0 1 = cc in omega arith) in

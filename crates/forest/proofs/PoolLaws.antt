@@ -9,13 +9,13 @@ use lib.ListN.{length, drop, get_or, set, length-set, length-append}
 use lib.Seq.{get_or-set_same, get_or-set_other, set-get_or}
 use lib.Dec.{ltb, eqb, leb}
 use borrow.Author.Tests.{lt-ltb, le-ltb, ltb-false, le-leb, lt-leb, leb-false}
+use Rattle.std.specs.Prelude.{Err}
 use Rattle.forest.specs.Lists.{once, total}
 use Rattle.forest.specs.Pairs.{lookup, has}
 use Rattle.forest.specs.Rows.{Tree, Good}
 use Rattle.forest.specs.Trees.{pairs, numbers, leaf_items, put_tree, need, get_tree}
 use Rattle.forest.specs.declared.Refusal.{Refusal}
 use Rattle.forest.specs.declared.Refusal.TheVariants.{NoTree, NoRoom}
-use Rattle.forest.specs.declared.Reply.TheVariants.{Refused}
 use Rattle.forest.specs.Answers.{held}
 use Rattle.forest.specs.Pools.{Pool, used, AllGood, WellFormed, tree_of, push_all, Call, put, remove, get, target, after, takes, frees, says, refused, done, call, acts, key_of}
 use Rattle.forest.proofs.ListLaws.{is, isnt, test, total-append}
@@ -97,7 +97,7 @@ unfolding call
 call-done c p e = simp e
 
 -- a call that is refused changes nothing, and answers with the reason
-pub call-refused : (c : Call) (p : Pool) (x : Refusal) → refused c p ≡ some x → call c p ≡ record { answer = Refused x; pool = p }
+pub call-refused : (c : Call) (p : Pool) (x : Refusal) → refused c p ≡ some x → call c p ≡ record { answer = Err x; pool = p }
 unfolding call
 call-refused c p x e = simp e
 

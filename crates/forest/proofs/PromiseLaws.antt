@@ -4,8 +4,8 @@ use mathlib.Core.List.{List}
 use Prim.Native.Nat.{ℕ, suc, ◌+◌, ◌*◌, ◌≤◌}
 use native.Mathlib.Omega.{arith}
 use lib.ListN.{length, get_or}
-use Rattle.forest.specs.declared.Reply.{Reply}
-use Rattle.forest.specs.declared.Reply.TheVariants.{Refused}
+use Rattle.std.specs.Prelude.{Err}
+use Rattle.forest.specs.Answers.{Reply}
 use Rattle.forest.specs.declared.Refusal.TheVariants.{Unsound}
 use Rattle.forest.specs.declared.Cursor.{Cursor}
 use Rattle.forest.specs.Pools.{Pool, Sound, encode, Call, call}
@@ -42,7 +42,7 @@ module _ (m : ℕ) (lo : 1 ≤ m) where
     unsound_answer = λ n. absurd (n s);
   }
 
-  pub calls_unsound : (c : Call) (before : List ℕ) → (Sound m before → ⊥) → Calls m c before before (Refused Unsound)
+  pub calls_unsound : (c : Call) (before : List ℕ) → (Sound m before → ⊥) → Calls m c before before (Err Unsound)
   calls_unsound c before n = record {
     sound_words = λ p w b. absurd (n (record { pool = p; formed = w; same = b }));
     sound_answer = λ p w b. absurd (n (record { pool = p; formed = w; same = b }));
@@ -62,7 +62,7 @@ module _ (m : ℕ) (lo : 1 ≤ m) where
     unsound_cursor = λ n. absurd (n s);
   }
 
-  pub moves_unsound : (v : Move) (c : Cursor) (before : List ℕ) → (Sound m before → ⊥) → Moves m v c before before (Refused Unsound) c
+  pub moves_unsound : (v : Move) (c : Cursor) (before : List ℕ) → (Sound m before → ⊥) → Moves m v c before before (Err Unsound) c
   moves_unsound v c before n = record {
     sound_words = λ p w b. absurd (n (record { pool = p; formed = w; same = b }));
     sound_answer = λ p w b. absurd (n (record { pool = p; formed = w; same = b }));

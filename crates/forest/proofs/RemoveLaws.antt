@@ -14,8 +14,7 @@ use Rattle.forest.specs.Pairs.{Item, Rising, has, place}
 use Rattle.forest.specs.Rows.{Tree, Good}
 use Rattle.forest.specs.Trees.{leaf_items, pairs, numbers}
 use Rattle.forest.specs.declared.Cursor.{Cursor}
-use Rattle.forest.specs.declared.Reply.TheVariants.{Nothing, Value}
-use Rattle.forest.specs.Answers.{held, valued}
+use Rattle.forest.specs.Answers.{held, valued, nothing, value}
 use Rattle.forest.specs.Pools.{Pool, WellFormed, remove, call, refused, tree_of, node_words}
 use Rattle.forest.specs.Cursors.{Spot, off, on, leaves, Fits, pair_at, seek, position, spot_at, path_of, cursor_at, spot_of, path_in, stands, Move, to_first, to_key, to_next, to_prev, to_settled, to_remove, removed, left_pool, left_spot, Moved, blocked, move_from, move}
 use Rattle.forest.proofs.Reasons.{passes, stops, verdict, number}
@@ -47,7 +46,7 @@ pub record Removes (p : Pool) (c : Cursor) (y : Item) (r : Moved) : Type 0 where
   pub same_pool : r.pool ≡ (call (remove c.tree y.0) p).pool
   pub same_answer : r.answer ≡ (call (remove c.tree y.0) p).answer
   -- the value held, and the list without that pair
-  pub value : r.answer ≡ Value y.1
+  pub value : r.answer ≡ value y.1
   pub left : pairs (tree_of r.pool c.tree) ≡ remove_at (rank p c) (list p c)
   -- the cursor has the place of the pair that went: on the next pair, or off the end
   pub comes : spot_in r.pool r.cursor ≡ spot_at (leaves (tree_of r.pool c.tree)) (rank p c)
@@ -73,8 +72,8 @@ module _ (m : ℕ) (lo : 1 ≤ m) (hi : m ≤ 4) (p : Pool) (h : WellFormed m p)
       call_free (remove c.tree y.0) p (record { there = (barred to_remove c p).there (λ z. omega (arith, ap number (sym e ∙ z))); enough = omega arith }) in
       let sp : (move to_remove c p).pool ≡ (call (remove c.tree y.0) p).pool = rw (move-done to_remove c p e, q) in
       let go = goes m lo hi p h c to_remove e in
-      let v : (move to_remove c p).answer ≡ Value y.1 = go.answers ∙ ap valued q in
-      let w : (call (remove c.tree y.0) p).answer ≡ Value y.1 =
+      let v : (move to_remove c p).answer ≡ value y.1 = go.answers ∙ ap valued q in
+      let w : (call (remove c.tree y.0) p).answer ≡ value y.1 =
       call_answer m lo (remove c.tree y.0) p h free ∙ ap held (nth-lookup (list p c) (rank p c) y n.1 n.0) in
       let l : pairs (tree_of (move to_remove c p).pool c.tree) ≡ remove_at (rank p c) (list p c) =
       ap (λ (z : Pool). pairs (tree_of z c.tree)) sp ∙ call-pairs m lo (remove c.tree y.0) p h free ∙
@@ -98,7 +97,7 @@ module _ (m : ℕ) (lo : 1 ≤ m) (hi : m ≤ 4) (p : Pool) (h : WellFormed m p)
 
   -- on no pair: not found, and neither pool nor cursor changes
   pub remove_none : length c.nodes ≡ most_levels → length c.places ≡ most_levels → blocked to_remove c p ≡ none → pair_at (row p c) (spot_in p c) ≡ none →
-      move to_remove c p ≡ record { answer = Nothing; cursor = c; pool = p }
+      move to_remove c p ≡ record { answer = nothing; cursor = c; pool = p }
   unfolding move_from
   remove_none a b e q = rw (move-done to_remove c p e, q, stays (tree_of p c.tree) c a b (blocked-stands to_remove c p e refl))
 

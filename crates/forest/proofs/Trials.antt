@@ -11,9 +11,8 @@ use Rattle.forest.specs.Pairs.{Item}
 use Rattle.forest.specs.Rows.{Row, Tree, keeps, put_node, alone, heal}
 use Rattle.forest.specs.Trees.{put_tree, need, remove_tree, freed, get_tree, put_leaf, drop_leaf, drop_above}
 use Rattle.forest.specs.declared.Answer.{Answer}
-use Rattle.forest.specs.declared.Reply.{Reply}
 use Rattle.forest.specs.declared.Cursor.{Cursor}
-use Rattle.forest.specs.Answers.{answer_of}
+use Rattle.forest.specs.Answers.{answer_of, Reply}
 use Rattle.forest.specs.Pools.{Pool, Call, put, remove, get, call, refused, done, encode, fresh, root, run, answers, formatted, format_answer}
 use Rattle.forest.specs.Cursors.{Moved, path_in, cursor_at, clean, to_key, to_next, to_prev, to_remove, move, move_from, blocked, leaves}
 

@@ -1,34 +1,49 @@
 -- DEFINITIONS. Answers: what a call finds or is refused for, and the one numbering
-use Rattle.std.specs.Prelude.{Bool, true, false, ℕ}
+use Rattle.std.specs.Prelude.{Bool, true, false, ℕ, Result, Ok, Err, Some, None}
+use Rattle.std.specs.Prelude as rust
 use Rattle.std.proofs.Math.Option.{Option, none, some}
 use Rattle.forest.specs.Pairs.{Item}
 use Rattle.forest.specs.declared.Answer.{Answer}
 use Rattle.forest.specs.declared.Refusal.{Refusal}
 use Rattle.forest.specs.declared.Refusal.TheVariants.{Unsound, NoTree, NoPlace, NoRoom, NoFormat}
-use Rattle.forest.specs.declared.Reply.{Reply}
-use Rattle.forest.specs.declared.Reply.TheVariants.{Nothing, Value, Pair, Refused}
+use Rattle.forest.specs.declared.Hit.{Hit}
+use Rattle.forest.specs.declared.Hit.TheVariants.{Value, Pair}
+
+-- what a call answers: what it finds, if anything, or why it is refused
+abbrev pub Reply : Type 0
+Reply = Result (rust.Option Hit) Refusal
+
+-- done, and nothing found
+abbrev pub nothing : Reply
+nothing = Ok None
+
+-- done, and a value found
+abbrev pub value : ℕ → Reply
+value v = Ok (Some (Value v))
+
+-- done, and a pair found
+abbrev pub pair : ℕ → ℕ → Reply
+pair k v = Ok (Some (Pair k v))
 
 -- found with a value, or not found
 abbrev pub held : Option ℕ → Reply
-held none = Nothing
-held (some v) = Value v
+held none = nothing
+held (some v) = value v
 
 -- found with key and value, or not found
 abbrev pub told : Option Item → Reply
-told none = Nothing
-told (some x) = Pair x.0 x.1
+told none = nothing
+told (some x) = pair x.0 x.1
 
 -- of a pair the value alone
 abbrev pub valued : Option Item → Reply
-valued none = Nothing
-valued (some x) = Value x.1
+valued none = nothing
+valued (some x) = value x.1
 
 -- does it count in demand 3: a refusal is struck out
 abbrev pub kept : Reply → Bool
-kept Nothing = true
-kept (Value v) = true
-kept (Pair k v) = true
-kept (Refused x) = false
+kept (Ok o) = true
+kept (Err x) = false
 
 -- Document 01's numbers
 
@@ -50,7 +65,7 @@ found_with k v = record { number = 0; found = true; key = k; value = v }
 
 -- the answer that a reply is
 abbrev pub answer_of : Reply → Answer
-answer_of Nothing = refusal 0
-answer_of (Value v) = found_with 0 v
-answer_of (Pair k v) = found_with k v
-answer_of (Refused x) = refusal (number_of x)
+answer_of (Ok None) = refusal 0
+answer_of (Ok (Some (Value v))) = found_with 0 v
+answer_of (Ok (Some (Pair k v))) = found_with k v
+answer_of (Err x) = refusal (number_of x)

@@ -1,5 +1,5 @@
 -- DEFINITIONS. Cursors: where one stands in a tree, its path, how it moves, and the calls
-use Rattle.std.specs.Prelude.{◌≡◌, List, [], ◌∷◌, map, reverse, Bool, true, false, cond, ◌&&◌, ℕ, zero, suc, ◌+◌, ◌-◌, ◌≤◌, ◌<◌, length, take, drop, get_or, ltb, leb, eqb}
+use Rattle.std.specs.Prelude.{◌≡◌, List, [], ◌∷◌, map, reverse, Bool, true, false, cond, ◌&&◌, ℕ, zero, suc, ◌+◌, ◌-◌, ◌≤◌, ◌<◌, length, take, drop, get_or, ltb, leb, eqb, Err}
 use Rattle.std.proofs.Math.Option.{Option, none, some}
 use Rattle.std.proofs.Math.ListN.{get_elem?}
 use Rattle.forest.specs.Sizes.{most_levels}
@@ -9,10 +9,8 @@ use Rattle.forest.specs.Rows.{Row, Tree, sizes, nums, items_at}
 use Rattle.forest.specs.Trees.{leaf_of, leaf_items, get_tree}
 use Rattle.forest.specs.declared.Refusal.{Refusal}
 use Rattle.forest.specs.declared.Refusal.TheVariants.{NoPlace}
-use Rattle.forest.specs.declared.Reply.{Reply}
-use Rattle.forest.specs.declared.Reply.TheVariants.{Nothing, Refused}
 use Rattle.forest.specs.declared.Cursor.{Cursor}
-use Rattle.forest.specs.Answers.{held, told, valued}
+use Rattle.forest.specs.Answers.{held, told, valued, Reply, nothing}
 use Rattle.forest.specs.Pools.{Pool, remove, call, tree_of, gate}
 
 -- at entry e of the j-th leaf (e may be one past the last), or off the end
@@ -195,7 +193,7 @@ tells to_first t s = told (pair_at (leaves t) (first (leaves t)))
 tells (to_key k) t s = held (get_tree k t)
 tells to_next t s = told (pair_at (leaves t) (next (leaves t) s))
 tells to_prev t s = told (prev_pair (leaves t) s)
-tells to_settled t s = Nothing
+tells to_settled t s = nothing
 tells to_remove t s = valued (pair_at (leaves t) s)
 
 -- first and seek read only the tree number of the cursor
@@ -256,7 +254,7 @@ move_from v t s p = record {
 -- what comes of it: where there is a reason against it neither pool nor cursor changes, else it is done
 abbrev pub unless_moved : Option Refusal → Cursor → Pool → Moved → Moved
 unless_moved none c p d = d
-unless_moved (some x) c p d = record { answer = Refused x; cursor = c; pool = p }
+unless_moved (some x) c p d = record { answer = Err x; cursor = c; pool = p }
 
 -- a move
 unfoldable pub move : Move → Cursor → Pool → Moved

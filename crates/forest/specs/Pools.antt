@@ -1,5 +1,5 @@
 -- DEFINITIONS. A pool of trees, when it is well formed, its words, and the calls
-use Rattle.std.specs.Prelude.{◌≡◌, List, [], ◌∷◌, ◌++◌, map, reverse, Bool, true, cond, ◌&&◌, ℕ, zero, suc, ◌+◌, ◌-◌, ◌*◌, ◌≤◌, length, drop, get_or, set, replicate, ltb, leb, eqb}
+use Rattle.std.specs.Prelude.{◌≡◌, List, [], ◌∷◌, ◌++◌, map, reverse, Bool, true, cond, ◌&&◌, ℕ, zero, suc, ◌+◌, ◌-◌, ◌*◌, ◌≤◌, length, drop, get_or, set, replicate, ltb, leb, eqb, Err}
 use Rattle.std.proofs.Math.Option.{Option, none, some}
 use Rattle.forest.specs.Sizes.{most_trees, most_nodes, leaf_cap, leaf_tag, inner_tag, node_size, key_words, link_words}
 use Rattle.forest.specs.Lists.{once, count, pad}
@@ -7,9 +7,7 @@ use Rattle.forest.specs.Pairs.{Item, insert, delete}
 use Rattle.forest.specs.Rows.{Node, Row, Tree, node, nums, Good}
 use Rattle.forest.specs.declared.Refusal.{Refusal}
 use Rattle.forest.specs.declared.Refusal.TheVariants.{NoTree, NoRoom, NoFormat}
-use Rattle.forest.specs.declared.Reply.{Reply}
-use Rattle.forest.specs.declared.Reply.TheVariants.{Nothing, Refused}
-use Rattle.forest.specs.Answers.{held, kept}
+use Rattle.forest.specs.Answers.{held, kept, Reply, nothing}
 use Rattle.forest.specs.Runs.{Kind, finally, replies}
 use Rattle.forest.specs.Trees.{numbers, put_tree, need, remove_tree, freed, get_tree}
 
@@ -182,7 +180,7 @@ done c p =
 -- what comes of it: where there is a reason against it nothing changes, else it is done
 abbrev pub unless : Option Refusal → Pool → Done → Done
 unless none p d = d
-unless (some x) p d = record { answer = Refused x; pool = p }
+unless (some x) p d = record { answer = Err x; pool = p }
 
 -- a call
 unfoldable pub call : Call → Pool → Done
@@ -198,7 +196,7 @@ format_words T N ws = cond (formatted T N (length ws)) (encode (fresh T N)) ws
 
 -- and the answer
 unfoldable pub format_answer : ℕ → ℕ → List ℕ → Reply
-format_answer T N ws = cond (formatted T N (length ws)) Nothing (Refused NoFormat)
+format_answer T N ws = cond (formatted T N (length ws)) nothing (Err NoFormat)
 
 -- Calls in a row
 

@@ -1,8 +1,7 @@
 -- DEFINITIONS. What the public calls promise of the words, for any words
-use Rattle.std.specs.Prelude.{◌≡◌, List, ℕ}
+use Rattle.std.specs.Prelude.{◌≡◌, List, ℕ, Err}
+use Rattle.forest.specs.Answers.{Reply}
 use Rattle.forest.specs.Pools.{Pool, WellFormed, Sound, encode, Call, call}
-use Rattle.forest.specs.declared.Reply.{Reply}
-use Rattle.forest.specs.declared.Reply.TheVariants.{Refused}
 use Rattle.forest.specs.declared.Refusal.TheVariants.{Unsound}
 use Rattle.forest.specs.declared.Cursor.{Cursor}
 use Rattle.forest.specs.Cursors.{Move, move}
@@ -12,7 +11,7 @@ pub record Calls (m : ℕ) (c : Call) (before after : List ℕ) (r : Reply) : Ty
   pub sound_words : (p : Pool) → WellFormed m p → encode p ≡ before → encode (call c p).pool ≡ after
   pub sound_answer : (p : Pool) → WellFormed m p → encode p ≡ before → (call c p).answer ≡ r
   pub unsound_words : (Sound m before → ⊥) → after ≡ before
-  pub unsound_answer : (Sound m before → ⊥) → r ≡ Refused Unsound
+  pub unsound_answer : (Sound m before → ⊥) → r ≡ Err Unsound
 
 -- a cursor call: c is the cursor handed in, d the one handed back
 pub record Moves (m : ℕ) (v : Move) (c : Cursor) (before after : List ℕ) (r : Reply) (d : Cursor) : Type 0 where
@@ -20,5 +19,5 @@ pub record Moves (m : ℕ) (v : Move) (c : Cursor) (before after : List ℕ) (r 
   pub sound_answer : (p : Pool) → WellFormed m p → encode p ≡ before → (move v c p).answer ≡ r
   pub sound_cursor : (p : Pool) → WellFormed m p → encode p ≡ before → (move v c p).cursor ≡ d
   pub unsound_words : (Sound m before → ⊥) → after ≡ before
-  pub unsound_answer : (Sound m before → ⊥) → r ≡ Refused Unsound
+  pub unsound_answer : (Sound m before → ⊥) → r ≡ Err Unsound
   pub unsound_cursor : (Sound m before → ⊥) → d ≡ c

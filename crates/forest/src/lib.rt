@@ -29,14 +29,15 @@ pub enum Refusal {
     NoFormat,
 }
 
-// What a call answers: nothing found, a value, a pair, or that it is refused.
-#[derive(Clone, Copy)]
-pub enum Reply {
-    Nothing,
+// What a call finds: a value, or a pair.
+#[derive(Clone, Copy, Debug, PartialEq, Eq)]
+pub enum Hit {
     Value(u32),
     Pair(u32, u32),
-    Refused(Refusal),
 }
+
+// What a call answers: what it finds, if anything, or why it is refused.
+pub type Reply = Result<Option<Hit>, Refusal>;
 
 // An answer in document 01's numbers.
 #[repr(C)]
@@ -66,47 +67,37 @@ pub struct Moved {
 }
 
 // The number of a refusal.
-fn number(refusal: Refusal) -> u32
-    ensures { result ≡ number_of refusal }
-{
-    match refusal {
-        Refusal::Unsound => 1,
-        Refusal::NoTree => 2,
-        Refusal::NoPlace => 3,
-        Refusal::NoRoom => 4,
-        Refusal::NoFormat => 5,
+impl From<Refusal> for u32 {
+    ghost from_gives = { λ refusal n. n ≡ number_of refusal };
+
+    fn from(refusal: Refusal) -> u32 {
+        match refusal {
+            Refusal::Unsound => 1,
+            Refusal::NoTree => 2,
+            Refusal::NoPlace => 3,
+            Refusal::NoRoom => 4,
+            Refusal::NoFormat => 5,
+        }
     }
 }
 
 // A reply in document 01's numbers.
-pub fn numbered(reply: Reply) -> Answer
-    ensures { result ≡ answer_of reply }
-{
-    match reply {
-        Reply::Nothing => Answer {
-            number: 0,
-            found: false,
-            key: 0,
-            value: 0,
-        },
-        Reply::Value(value) => Answer {
-            number: 0,
-            found: true,
-            key: 0,
-            value: value,
-        },
-        Reply::Pair(key, value) => Answer {
-            number: 0,
-            found: true,
-            key: key,
-            value: value,
-        },
-        Reply::Refused(refusal) => Answer {
-            number: number(refusal),
-            found: false,
-            key: 0,
-            value: 0,
-        },
+impl From<Reply> for Answer {
+    ghost from_gives = { λ reply a. a ≡ answer_of reply };
+
+    fn from(reply: Reply) -> Answer {
+        let (number, found, key, value) = match reply {
+            Ok(None) => (0, false, 0, 0),
+            Ok(Some(Hit::Value(value))) => (0, true, 0, value),
+            Ok(Some(Hit::Pair(key, value))) => (0, true, key, value),
+            Err(refusal) => (refusal.into(), false, 0, 0),
+        };
+        Answer {
+            number,
+            found,
+            key,
+            value,
+        }
     }
 }
 

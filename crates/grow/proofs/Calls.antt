@@ -9,14 +9,14 @@ use lib.ListN.{length, drop, get_or, set}
 use lib.Seq.{set-get_or}
 use lib.Dec.{ltb, eqb}
 use borrow.Author.Tests.{lt-ltb, le-ltb, eq-eqb, ne_eqb, ltb-true, eqb-true}
+use Rattle.std.specs.Prelude.{Err}
 use Rattle.forest.specs.Sizes.{leaf_least}
 use Rattle.forest.specs.Lists.{insert_at}
 use Rattle.forest.specs.Pairs.{Item, Rising, has, place, lookup}
 use Rattle.forest.specs.Rows.{Row, full}
 use Rattle.forest.specs.Trees.{leaf_items, need, get_tree}
 use Rattle.forest.specs.declared.Refusal.TheVariants.{NoRoom}
-use Rattle.forest.specs.declared.Reply.TheVariants.{Nothing, Value, Refused}
-use Rattle.forest.specs.Answers.{held}
+use Rattle.forest.specs.Answers.{held, nothing, value}
 use Rattle.forest.specs.Pools
 use Rattle.forest.specs.Pools.{root_above}
 use Rattle.forest.proofs.ListLaws.{is, isnt, test, tri, less, same, more}
@@ -61,7 +61,7 @@ lookup-at k (x ∷ xs) r h = elim (tri k x.0) [
 
 -- The call: refused for want of nodes, or done
 module _ (p : Pools.Pool) (tree k v : ℕ) (there : tree < length p.trees) where
-  pub refused-call : length p.free < need 7 k (Pools.tree_of p tree) → Pools.call (Pools.put tree k v) p ≡ record { answer = Refused NoRoom; pool = p }
+  pub refused-call : length p.free < need 7 k (Pools.tree_of p tree) → Pools.call (Pools.put tree k v) p ≡ record { answer = Err NoRoom; pool = p }
   refused-call h = call-refused (Pools.put tree k v) p NoRoom (refused_four (Pools.put tree k v) p there h)
 
   pub done-call : need 7 k (Pools.tree_of p tree) ≤ length p.free →
@@ -76,7 +76,7 @@ module _ (p : Pools.Pool) (w : Pools.WellFormed leaf_least p) (tree k v : ℕ) (
     unfolding need
     empty_need = rw is-empty
 
-    pub empty_held : held (get_tree k (Pools.tree_of p tree)) ≡ Nothing
+    pub empty_held : held (get_tree k (Pools.tree_of p tree)) ≡ nothing
     unfolding get_tree
     empty_held = rw is-empty
 
@@ -112,7 +112,7 @@ module _ (p : Pools.Pool) (w : Pools.WellFormed leaf_least p) (tree k v : ℕ) (
       unfolding need
       present_need = rw is-tree (simp h)
 
-      pub present_held : held (get_tree k (Pools.tree_of p tree)) ≡ Value (get_or (leaf_items k L) e (0, 0)).1
+      pub present_held : held (get_tree k (Pools.tree_of p tree)) ≡ value (get_or (leaf_items k L) e (0, 0)).1
       unfolding get_tree
       present_held = rw is-tree (ap held (lookup-at k (leaf_items k L) rises h))
 
@@ -128,7 +128,7 @@ module _ (p : Pools.Pool) (w : Pools.WellFormed leaf_least p) (tree k v : ℕ) (
       pub absent_at : is_at (leaf_items k L) e k ≡ false
       absent_at = miss_at k (leaf_items k L) e h
 
-      pub absent_held : held (get_tree k (Pools.tree_of p tree)) ≡ Nothing
+      pub absent_held : held (get_tree k (Pools.tree_of p tree)) ≡ nothing
       unfolding get_tree
       absent_held = rw is-tree (ap held (lookup-has k (leaf_items k L) h))
 

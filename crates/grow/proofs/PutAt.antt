@@ -7,14 +7,14 @@ use native.Mathlib.Omega.{arith}
 use lib.ListN.{length, get_or, set}
 use lib.Dec.{leb}
 use borrow.Author.Tests.{leb-true, leb-false}
+use Rattle.std.specs.Prelude.{Option, Some}
+use Rattle.forest.specs.Answers.{Reply, nothing, value}
 use Rattle.forest.specs.Pairs.{Item, has, place}
 use Rattle.forest.specs.Rows.{Row, Tree}
 use Rattle.forest.specs.Trees.{leaf_items}
 use Rattle.forest.specs.Pools
 use Rattle.forest.specs.Cursors.{cursor_at, path_of, seek, leaves}
 use Rattle.forest.specs.declared.Cursor.{Cursor}
-use Rattle.forest.specs.declared.Reply.{Reply}
-use Rattle.forest.specs.declared.Reply.TheVariants.{Nothing, Value}
 use Rattle.pool.specs.Stores.{block, put, spell}
 use Rattle.node.specs.Nodes.{leaf_pairs}
 use Rattle.path.specs.Cores.{Ready, Of, Goes, Ends}
@@ -109,31 +109,34 @@ module _ (ws : List ℕ) (t tree k v : ℕ) (y : Ready ws t tree) (q : 1 ≤ get
     place_asks = rw (← d.node, ← d.place) (Landings.leaf_place ws t tree c.nodes c.places level (s own mine) (at own mine) (site own mine))
 
     -- after a try to replace
-    module _ (m : List ℕ) (r : Reply) (a : Replaces t n e k v ws m r) where
+    module _ (m : List ℕ) (r : Option ℕ) (a : Replaces t n e k v ws m r) where
       -- the key was there
-      pub replaced : (r ≡ Nothing → ⊥) → Puts tree k v ws m r
-      replaced z = record {
+      pub replaced : (x : ℕ) → r ≡ Some x → Puts tree k v ws m (value x)
+      replaced x z = record {
         words = λ p w q. let o : Of ws p = record { formed = w; same = q } in (both p o (has k (items p o)) refl).0;
         answer = λ p w q. let o : Of ws p = record { formed = w; same = q } in (both p o (has k (items p o)) refl).1;
       }
         where
           both : (p : Pools.Pool) (o : Of ws p) (b : Bool) → has k (items p o) ≡ b →
-              (Pools.encode (Pools.call (Pools.put tree k v) p).pool ≡ m) × ((Pools.call (Pools.put tree k v) p).answer ≡ r)
+              (Pools.encode (Pools.call (Pools.put tree k v) p).pool ≡ m) × ((Pools.call (Pools.put tree k v) p).answer ≡ value x)
           both p o true h =
               let u = is-at p o ∙ Calls.present_at p o.formed tree k v (in-pool p o) (L p o) (Rs p o) (tree_is p o) h in
               let n = Calls.present_need p o.formed tree k v (in-pool p o) (L p o) (Rs p o) (tree_is p o) h in
+              let told : Some x ≡ Some (get_or (items p o) (at p o) (0, 0)).1 = sym z ∙ a.hit_reply u ∙ ap Some (value-is p o) in
+              let x-is : x ≡ (get_or (items p o) (at p o) (0, 0)).1 = cc in
               let d = Calls.done-call p tree k v (in-pool p o) (omega arith) in (
                 ap (λ (d : Pools.Done). Pools.encode d.pool) d ∙
                     sym (a.hit_words u ∙ replaced-is p o ∙ Calls.present_words p o.formed tree k v (in-pool p o) (L p o) (Rs p o) (tree_is p o) h),
                 ap (λ (d : Pools.Done). d.answer) d ∙
                     Calls.present_held p o.formed tree k v (in-pool p o) (L p o) (Rs p o) (tree_is p o) h ∙
-                    sym (a.hit_reply u ∙ ap Value (value-is p o)),
+                    sym (ap value x-is),
               )
           both p o false h =
-              absurd (z (a.miss_reply (is-at p o ∙ Calls.absent_at p o.formed tree k v (in-pool p o) (L p o) (Rs p o) (tree_is p o) h)))
+              let q = a.miss_reply (is-at p o ∙ Calls.absent_at p o.formed tree k v (in-pool p o) (L p o) (Rs p o) (tree_is p o) h) in
+              absurd (let w : ◌≡◌ {A = ℕ} 0 1 = cc in omega arith)
 
       -- it was not
-      module _ (z : (x : ℕ) → r ≡ Value x → ⊥) where
+      module _ (z : (x : ℕ) → r ≡ Some x → ⊥) where
         absent : (p : Pools.Pool) (o : Of ws p) → has k (items p o) ≡ false
         absent p o = go (has k (items p o)) refl
           where
@@ -153,13 +156,13 @@ module _ (ws : List ℕ) (t tree k v : ℕ) (y : Ready ws t tree) (q : 1 ≤ get
           tried = rw (d.node, d.place, ← still) f
 
           -- there was room
-          pub came : b ≡ true → Puts tree k v ws o Nothing
+          pub came : b ≡ true → Puts tree k v ws o nothing
           came h = record {
             words = λ p w q. (both p (record { formed = w; same = q })).0;
             answer = λ p w q. (both p (record { formed = w; same = q })).1;
           }
             where
-              both : (p : Pools.Pool) (i : Of ws p) → (Pools.encode (Pools.call (Pools.put tree k v) p).pool ≡ o) × ((Pools.call (Pools.put tree k v) p).answer ≡ Nothing)
+              both : (p : Pools.Pool) (i : Of ws p) → (Pools.encode (Pools.call (Pools.put tree k v) p).pool ≡ o) × ((Pools.call (Pools.put tree k v) p).answer ≡ nothing)
               both p i =
                   let r = Landings.has_room ws t tree c.nodes c.places level (k, v) o b tried (s p i) (at p i) (site p i) h in
                   let n = Calls.room-need p i.formed tree k v (in-pool p i) (L p i) (Rs p i) (tree_is p i) (absent p i) r in

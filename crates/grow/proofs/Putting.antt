@@ -1,20 +1,16 @@
 -- PROOFS. A put on sound words: in an empty tree, where the key is there, and where it is absent
 use mathlib.Core.Path.{◌≡◌, refl, sym, ap, ◌∙◌}
 use mathlib.Core.List.{List, [], ◌∷◌, map}
-use mathlib.Core.Logic.{⊎_elim}
 use Prim.Native.Nat.{ℕ, ◌+◌, ◌≤◌, ◌<◌}
 use native.Mathlib.Omega.{arith}
 use lib.ListN.{length, drop, get_or, set, length-map}
-use denote.Enum.Declared
-use types.Run.{OneOf}
+use Rattle.std.specs.Prelude.{Err}
+use Rattle.forest.specs.Answers.{nothing}
 use Rattle.forest.specs.Sizes.{leaf_least}
 use Rattle.forest.specs.Rows.{Tree}
 use Rattle.forest.specs.Trees.{need}
 use Rattle.forest.specs.Pools
-use Rattle.forest.specs.declared.Reply.{Reply}
-use Rattle.forest.specs.declared.Reply.TheVariants.{Nothing, Value, Refused}
 use Rattle.forest.specs.declared.Refusal.TheVariants.{NoRoom}
-use Rattle.forest.specs.contracts.Reply as ReplyType
 use Rattle.forest.proofs.CountLaws.{nodes_all, node-length}
 use Rattle.pool.specs.Stores.{spell, stack_at, free_count, Sixteen}
 use Rattle.pool.proofs.Spell.{encode-spell}
@@ -27,13 +23,6 @@ use Rattle.grow.proofs.Mem
 use Rattle.grow.proofs.Pooled
 use Rattle.grow.proofs.Spelling
 use Rattle.grow.proofs.Calls
-
--- The variant of a reply by its tag
-pub no_nothing : (r : Reply) → Declared.tag_of ReplyType.the_type r ≡ 1 → r ≡ Nothing → ⊥
-no_nothing r h e = let z : ◌≡◌ {A = ℕ} 0 1 = rw e at h in omega arith
-
-pub no_value : (r : Reply) → OneOf (0 ∷ 2 ∷ 3 ∷ []) (Declared.tag_of ReplyType.the_type r) → (v : ℕ) → r ≡ Value v → ⊥
-no_value r h v e = ⊎_elim (λ q. let z : ◌≡◌ {A = ℕ} 1 0 = q in omega arith) (λ l. ⊎_elim (λ q. let z : ◌≡◌ {A = ℕ} 1 2 = q in omega arith) (λ q. let z : ◌≡◌ {A = ℕ} 1 3 = q in omega arith) l) (rw e at h)
 
 module _ (ws : List ℕ) (t tree : ℕ) (y : Ready ws t tree) where
   pub root_asks : tree + 1 < length ws
@@ -113,7 +102,7 @@ module _ (ws : List ℕ) (t tree k v : ℕ) (g : Empty ws t tree) (f : ℕ) (q :
     need-one : need 7 k (Pools.tree_of p tree) ≡ 1
     need-one = Calls.empty_need p o.formed tree k v in-pool empty
 
-  pub first-refused : f ≡ 0 → Puts tree k v ws ws (Refused NoRoom)
+  pub first-refused : f ≡ 0 → Puts tree k v ws ws (Err NoRoom)
   first-refused z = record {
     words = λ p w e.
         let o : Of ws p = record { formed = w; same = e } in
@@ -126,7 +115,7 @@ module _ (ws : List ℕ) (t tree k v : ℕ) (g : Empty ws t tree) (f : ℕ) (q :
   pub plant_asks : 1 ≤ f → Grows.Takes ws t × (tree + 1 < length ws)
   plant_asks h = (takes ws t tree g.ready g.ready.sound.pool mine (omega (arith, counted g.ready.sound.pool mine)), root_asks ws t tree g.ready)
 
-  pub first_done : (w m : List ℕ) → 1 ≤ f → w ≡ Pools.leaf_words ((k, v) ∷ []) → m ≡ Grows.planted_words ws t tree w → Puts tree k v ws m Nothing
+  pub first_done : (w m : List ℕ) → 1 ≤ f → w ≡ Pools.leaf_words ((k, v) ∷ []) → m ≡ Grows.planted_words ws t tree w → Puts tree k v ws m nothing
   first_done w m h a b = record {
     words = λ p u e.
         let o : Of ws p = record { formed = u; same = e } in

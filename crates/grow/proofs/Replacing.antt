@@ -7,10 +7,11 @@ use native.Mathlib.Omega.{arith}
 use lib.ListN.{length, get_or, set, length-map, length-set}
 use lib.Dec.{ltb}
 use borrow.Author.Tests.{lt-ltb, le-ltb, eq-eqb, ne_eqb}
+use Rattle.std.specs.Prelude.{Some, None, Err}
+use Rattle.forest.specs.Answers.{nothing}
 use Rattle.forest.specs.Lists.{pad}
 use Rattle.forest.specs.Pairs.{Item}
 use Rattle.forest.specs.Pools.{leaf_words}
-use Rattle.forest.specs.declared.Reply.TheVariants.{Nothing, Value, Refused}
 use Rattle.forest.specs.declared.Refusal.TheVariants.{NoRoom}
 use Rattle.forest.proofs.ListLaws.{is, isnt, test, map-set, set_right}
 use Rattle.forest.proofs.CountLaws.{length-pad, set-pad}
@@ -56,7 +57,7 @@ module _ (ws : List ℕ) (t n p : ℕ) (g : LeafPlace ws t n p) where
   items = leaf_pairs (block ws t n)
 
   -- the key is not at the place
-  miss : (k v : ℕ) → is_at items p k ≡ false → Replaces t n p k v ws ws Nothing
+  miss : (k v : ℕ) → is_at items p k ≡ false → Replaces t n p k v ws ws None
   miss k v z = record {
     hit_words = λ y. absurd (true≢false (sym y ∙ z));
     hit_reply = λ y. absurd (true≢false (sym y ∙ z));
@@ -64,7 +65,7 @@ module _ (ws : List ℕ) (t n p : ℕ) (g : LeafPlace ws t n p) where
     miss_reply = λ y. refl;
   }
 
-  pub miss_end : (k v : ℕ) → get_or ws (base t n) 0 ≤ p + 32 → Replaces t n p k v ws ws Nothing
+  pub miss_end : (k v : ℕ) → get_or ws (base t n) 0 ≤ p + 32 → Replaces t n p k v ws ws None
   miss_end k v h = miss k v (at_beyond items p k (omega (arith, InPlace.first_is ws t n p g)))
 
   module _ (k v : ℕ) (h : p + 32 < get_or ws (base t n) 0) where
@@ -74,18 +75,18 @@ module _ (ws : List ℕ) (t n p : ℕ) (g : LeafPlace ws t n p) where
     seven : p < 7
     seven = omega (arith, within, InPlace.few ws t n p g)
 
-    pub miss_key : (get_or ws (base t n + 1 + p) 0 ≡ k → ⊥) → Replaces t n p k v ws ws Nothing
+    pub miss_key : (get_or ws (base t n + 1 + p) 0 ≡ k → ⊥) → Replaces t n p k v ws ws None
     miss_key z = miss k v (at_other items p k (λ y. z (InPlace.key_at ws t n p g seven ∙ y)))
 
     -- it is
-    pub hit : get_or ws (base t n + 1 + p) 0 ≡ k → Replaces t n p k v ws (set ws (base t n + 8 + p) v) (Value (get_or ws (base t n + 8 + p) 0))
+    pub hit : get_or ws (base t n + 1 + p) 0 ≡ k → Replaces t n p k v ws (set ws (base t n + 8 + p) v) (Some (get_or ws (base t n + 8 + p) 0))
     unfolding replaced_words
     hit e =
         let key-is : (get_or items p (0, 0)).0 ≡ k = sym (InPlace.key_at ws t n p g seven) ∙ e in
         let z : is_at items p k ≡ true = at_same items p k within key-is in
         record {
           hit_words = λ y. InPlace.value_put ws t n p g v seven ∙ ap (with_block ws t n) (value_set items p k v within key-is);
-          hit_reply = λ y. ap Value (InPlace.value_at ws t n p g seven);
+          hit_reply = λ y. ap Some (InPlace.value_at ws t n p g seven);
           miss_words = λ y. absurd (true≢false (sym z ∙ y));
           miss_reply = λ y. absurd (true≢false (sym z ∙ y));
         }
@@ -102,7 +103,7 @@ module _ (ws : List ℕ) (t tree : ℕ) (ns ps : List ℕ) (level : ℕ) where
     free_is f q = q ∙ rw (← u.words, ← u.trees) (spell-frees s.roots s.nodes s.store s.free u.sixteen)
 
   module _ (x : Item) (f n : ℕ) (q : f ≡ free_count ws t) (a : (s : Grows.Scene) (p : ℕ) → Grows.Land s p ws t tree ns ps level → n ≡ Grows.leaf_need s) where
-    pub refuse : f < n → (s : Grows.Scene) (p : ℕ) → Grows.Land s p ws t tree ns ps level → Adds s p tree x ws ws (Refused NoRoom)
+    pub refuse : f < n → (s : Grows.Scene) (p : ℕ) → Grows.Land s p ws t tree ns ps level → Adds s p tree x ws ws (Err NoRoom)
     refuse h s p d =
         let y = free_is s d.site.under f q in
         let z = a s p d in
@@ -121,7 +122,7 @@ module _ (ws : List ℕ) (t tree : ℕ) (ns ps : List ℕ) (level : ℕ) where
     }
 
     pub comes : (o : List ℕ) → n ≤ f → ((s : Grows.Scene) (p : ℕ) → Grows.Landed s p ws t tree ns ps level → o ≡ Grows.landed_words s p tree x) →
-        (s : Grows.Scene) (p : ℕ) → Grows.Land s p ws t tree ns ps level → Adds s p tree x ws o Nothing
+        (s : Grows.Scene) (p : ℕ) → Grows.Land s p ws t tree ns ps level → Adds s p tree x ws o nothing
     comes o h ens s p d =
         let y = free_is s d.site.under f q in
         let z = a s p d in

@@ -1,12 +1,11 @@
 -- DEFINITIONS. What putting a key promises: where it is there already, where it is absent, and of a whole pool
-use Rattle.std.specs.Prelude.{◌≡◌, List, Bool, true, false, cond, ℕ, ◌+◌, ◌≤◌, ◌<◌, length, get_or, set, ltb, eqb}
+use Rattle.std.specs.Prelude.{◌≡◌, List, Bool, true, false, cond, ℕ, ◌+◌, ◌≤◌, ◌<◌, length, get_or, set, ltb, eqb, Option, Some, None, Err}
+use Rattle.forest.specs.Answers.{Reply, nothing}
 use Rattle.forest.specs.Sizes.{leaf_least}
 use Rattle.forest.specs.Lists.{insert_at}
 use Rattle.forest.specs.Pairs.{Item}
 use Rattle.forest.specs.Pools.{Pool, WellFormed, encode, leaf_words, call}
 use Rattle.forest.specs.Pools as Pools
-use Rattle.forest.specs.declared.Reply.{Reply}
-use Rattle.forest.specs.declared.Reply.TheVariants.{Nothing, Value, Refused}
 use Rattle.forest.specs.declared.Refusal.TheVariants.{NoRoom}
 use Rattle.pool.specs.Stores.{block, with_block, Placed}
 use Rattle.node.specs.Nodes.{Leaf, leaf_pairs}
@@ -38,18 +37,18 @@ pub record Tries (t n p : ℕ) (x : Item) (before after : List ℕ) (r : Bool) :
   pub full_words : r ≡ false → after ≡ before
 
 -- a key that is there gets its value anew, and its earlier one is told; else nothing happens
-pub record Replaces (t n p k v : ℕ) (before after : List ℕ) (r : Reply) : Type 0 where
+pub record Replaces (t n p k v : ℕ) (before after : List ℕ) (r : Option ℕ) : Type 0 where
   pub hit_words : is_at (leaf_pairs (block before t n)) p k ≡ true → after ≡ replaced_words before t n p (k, v)
-  pub hit_reply : is_at (leaf_pairs (block before t n)) p k ≡ true → r ≡ Value (get_or (leaf_pairs (block before t n)) p (0, 0)).1
+  pub hit_reply : is_at (leaf_pairs (block before t n)) p k ≡ true → r ≡ Some (get_or (leaf_pairs (block before t n)) p (0, 0)).1
   pub miss_words : is_at (leaf_pairs (block before t n)) p k ≡ false → after ≡ before
-  pub miss_reply : is_at (leaf_pairs (block before t n)) p k ≡ false → r ≡ Nothing
+  pub miss_reply : is_at (leaf_pairs (block before t n)) p k ≡ false → r ≡ None
 
 -- an absent key comes if there are nodes enough
 pub record Adds (s : Scene) (p tree : ℕ) (x : Item) (before after : List ℕ) (r : Reply) : Type 0 where
   pub done_words : leaf_need s ≤ length s.free → after ≡ landed_words s p tree x
-  pub done_reply : leaf_need s ≤ length s.free → r ≡ Nothing
+  pub done_reply : leaf_need s ≤ length s.free → r ≡ nothing
   pub refused_words : length s.free < leaf_need s → after ≡ before
-  pub refused_reply : length s.free < leaf_need s → r ≡ Refused NoRoom
+  pub refused_reply : length s.free < leaf_need s → r ≡ Err NoRoom
 
 -- a put on sound words: those afterwards, and the answer
 pub record Puts (tree k v : ℕ) (before after : List ℕ) (r : Reply) : Type 0 where

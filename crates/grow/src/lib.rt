@@ -9,7 +9,7 @@ ghost use Rattle.grow.specs.Puts.{LeafPlace, Tries, Replaces, Adds, Puts, Empty}
 ghost use Rattle.grow.specs.Grows.{planted_words, cut_words, Takes, AskCut};
 ghost use Rattle.grow.specs.Grows.{Scene, Under, Unders, Climb, Climbs, climbed, Land, Lands, leaf_need, Landed, Fits, landed_words};
 
-use forest::{Cursor, Refusal, Reply};
+use forest::{Cursor, Hit, Refusal, Reply};
 use node::{InnerNode, LeafNode};
 
 // Takes a node, gives it the words of `node`, and makes it the root of a tree.
@@ -118,20 +118,20 @@ fn insert(ws: &mut [u32], t: usize, c: Cursor, key: u32, value: u32)
 }
 
 // Where `key` stands at place `at` of leaf n its value is replaced, and the earlier one is told.
-fn replace(ws: &mut [u32], t: usize, n: u32, at: usize, key: u32, value: u32) -> Reply
+fn replace(ws: &mut [u32], t: usize, n: u32, at: usize, key: u32, value: u32) -> Option<u32>
     requires { LeafPlace ws.old t n at }
     ensures { Replaces t n at key value ws.old ws.new result }
 {
     let b = t + 16 * (n as usize) - 14;
     if ws[b] as usize <= at + 32 {
-        return Reply::Nothing;
+        return None;
     }
     if ws[b + 1 + at] != key {
-        return Reply::Nothing;
+        return None;
     }
     let earlier = ws[b + 8 + at];
     ws[b + 8 + at] = value;
-    Reply::Value(earlier)
+    Some(earlier)
 }
 
 // An absent key comes where the path stands, in a full leaf, if there are nodes enough: they are counted before the first store.
@@ -140,10 +140,10 @@ fn add(ws: &mut [u32], t: usize, c: Cursor, key: u32, value: u32) -> Reply
     ensures { (s : Scene) (p : ℕ) → Land s p ws.old t c.tree c.nodes c.places (c.size - 1) → Adds s p c.tree (key, value) ws.old ws.new result }
 {
     if pool::free_count(ws, t) < need(ws, t, c) {
-        return Reply::Refused(Refusal::NoRoom);
+        return Err(Refusal::NoRoom);
     }
     insert(ws, t, c, key, value);
-    Reply::Nothing
+    Ok(None)
 }
 
 // The first entry of an empty tree.
@@ -152,10 +152,10 @@ fn put_first(ws: &mut [u32], t: usize, tree: u32, key: u32, value: u32) -> Reply
     ensures { Puts tree key value ws.old ws.new result }
 {
     if pool::free_count(ws, t) == 0 {
-        return Reply::Refused(Refusal::NoRoom);
+        return Err(Refusal::NoRoom);
     }
     plant(ws, t, tree, node::leaf(key, value));
-    Reply::Nothing
+    Ok(None)
 }
 
 // Puts `key` with `value` into a tree of a sound pool; a cursor is made only where the leaf is full.
@@ -167,12 +167,11 @@ pub fn put(ws: &mut [u32], t: usize, tree: u32, key: u32, value: u32) -> Reply
         return put_first(ws, t, tree, key, value);
     }
     let foot = path::find_leaf(ws, t, tree, key);
-    let found = replace(ws, t, foot.node, foot.place, key, value);
-    if let Reply::Value(_) = found {
-        return found;
+    if let Some(earlier) = replace(ws, t, foot.node, foot.place, key, value) {
+        return Ok(Some(Hit::Value(earlier)));
     }
     if try_leaf_insert(ws, t, foot.node, foot.place, key, value) {
-        return Reply::Nothing;
+        return Ok(None);
     }
     let c = path::find(ws, t, tree, key);
     add(ws, t, c, key, value)

@@ -8,19 +8,20 @@ use native.Mathlib.Omega.{arith}
 use lib.ListN.{length, get_or}
 use lib.Seq.{set-get_or}
 use borrow.Author.Tests.{lt-leb}
+use Rattle.std.specs.Prelude.{Ok, Err}
+use Rattle.std.specs.Prelude as rust
 use Rattle.forest.specs.Sizes.{leaf_least, most_levels}
 use Rattle.forest.specs.Rows.{Row, Tree, Good}
 use Rattle.forest.specs.Trees.{get_tree}
-use Rattle.forest.specs.Pools.{Pool, WellFormed, Sound, encode, tree_of, Call, target, get, put, call, gate, refused, done}
+use Rattle.forest.specs.Pools.{Pool, WellFormed, Sound, encode, tree_of, Call, target, get, call, gate, refused, done}
 use Rattle.forest.specs.Cursors.{Spot, Fits, pair_at, leaves, first, seek, settle, next, path_of, cursor_at, spot_of, path_in, stands, Move, to_first, to_key, to_next, to_prev, to_settled, tells, reads, left_pool, left_spot, blocked, move_from, move}
-use Rattle.forest.specs.Answers.{told, held}
+use Rattle.forest.specs.Answers.{told, held, Reply, nothing}
 use Rattle.forest.specs.Promises.{Calls, Moves}
 use Rattle.forest.specs.declared.Cursor.{Cursor}
+use Rattle.forest.specs.declared.Hit.{Hit}
 use Rattle.forest.specs.declared.Moved.{Moved}
 use Rattle.forest.specs.declared.Refusal.{Refusal}
 use Rattle.forest.specs.declared.Refusal.TheVariants.{NoPlace}
-use Rattle.forest.specs.declared.Reply.{Reply}
-use Rattle.forest.specs.declared.Reply.TheVariants.{Nothing, Refused}
 use Rattle.forest.proofs.PoolLaws.{good_at, call-refused, call-done, call_free}
 use Rattle.forest.proofs.WordLaws.{first_word}
 use Rattle.forest.proofs.Six.{six_levels}
@@ -33,7 +34,6 @@ use Rattle.path.proofs.Made.{fits-seek, gone_tree, gone_at}
 use Rattle.stand.specs.Runs.{Tells}
 use Rattle.moves.specs.Moves.{Steps, Seen, Back}
 use Rattle.moves.proofs.Moving.{moved_tree, moved_at}
-use Rattle.grow.specs.Puts.{Puts}
 use Rattle.map.specs.Gates.{held_at}
 use Rattle.map.proofs.Values.{held_tree}
 
@@ -46,9 +46,9 @@ of ws p w e = record { formed = w; same = e }
 
 -- Refusals
 
-pub refused_moves : (v : Move) (c : Cursor) (ws : List ℕ) (x : Refusal) → Sound leaf_least ws → ((p : Pool) → Of ws p → blocked v c p ≡ some x) → Moves leaf_least v c ws ws (Refused x) c
+pub refused_moves : (v : Move) (c : Cursor) (ws : List ℕ) (x : Refusal) → Sound leaf_least ws → ((p : Pool) → Of ws p → blocked v c p ≡ some x) → Moves leaf_least v c ws ws (Err x) c
 refused_moves v c ws x s f =
-    let r : (p : Pool) → Of ws p → move v c p ≡ record { answer = Refused x; cursor = c; pool = p } = λ p o. move-refused v c p x (f p o) in
+    let r : (p : Pool) → Of ws p → move v c p ≡ record { answer = Err x; cursor = c; pool = p } = λ p o. move-refused v c p x (f p o) in
     record {
       sound_words = λ p w b. ap (λ d. encode d.pool) (r p (of ws p w b)) ∙ b;
       sound_answer = λ p w b. ap (λ d. d.answer) (r p (of ws p w b));
@@ -59,7 +59,7 @@ refused_moves v c ws x s f =
     }
 
 pub gated_moves : (v : Move) (c : Cursor) (ws : List ℕ) (x : Refusal) → Sound leaf_least ws → ((p : Pool) → Of ws p → (rest : Option Refusal) → gate p c.tree rest ≡ some x) →
-    Moves leaf_least v c ws ws (Refused x) c
+    Moves leaf_least v c ws ws (Err x) c
 unfolding blocked
 gated_moves v c ws x s f = refused_moves v c ws x s (λ p o. f p o _)
 
@@ -141,14 +141,14 @@ module _ (ws : List ℕ) (t : ℕ) (c : Cursor) (y : Ready ws t c.tree) where
       (λ p o. gone-pair first (λ x k. fits_start (leaves x) 0) d g r x p o)
       (λ p o. sym (x.cursor ∙ g.to p o))
 
-  pub seek-held : (k : ℕ) (d : Cursor) (l : Look) (r : Reply) → Goes (seek k) ws c.tree d → Sees ws d l → r ≡ held_at l k → (p : Pool) → Of ws p → held (get_tree k (tree_of p c.tree)) ≡ r
+  pub seek-held : (k : ℕ) (d : Cursor) (l : Look) (r : rust.Option Hit) → Goes (seek k) ws c.tree d → Sees ws d l → r ≡ held_at l k → (p : Pool) → Of ws p → held (get_tree k (tree_of p c.tree)) ≡ Ok r
   seek-held k d l r g x e p o =
       sym (held_tree k (tree_of p c.tree) (good_at leaf_least p.trees c.tree o.formed.good)) ∙
-      ap (λ (u : Look). held_at u k) (sym (gone-look (seek k) (fits-seek k) d g l x p o)) ∙ sym e
+      ap (λ (u : Look). Ok (held_at u k)) (sym (gone-look (seek k) (fits-seek k) d g l x p o)) ∙ ap Ok (sym e)
 
-  pub seek_moves : (k : ℕ) (d : Cursor) (l : Look) (r : Reply) → Goes (seek k) ws c.tree d → Sees ws d l → r ≡ held_at l k → Moves leaf_least (to_key k) c ws ws r d
+  pub seek_moves : (k : ℕ) (d : Cursor) (l : Look) (r : rust.Option Hit) → Goes (seek k) ws c.tree d → Sees ws d l → r ≡ held_at l k → Moves leaf_least (to_key k) c ws ws (Ok r) d
   seek_moves k d l r g x e =
-      moves_done (to_key k) (λ t s p. refl) c d ws r y.sound
+      moves_done (to_key k) (λ t s p. refl) c d ws (Ok r) y.sound
       (λ p o. free_tree (to_key k) c p (tree_there ws t c.tree y p o) refl)
       (seek-held k d l r g x e)
       (λ p o. sym (g.to p o))
@@ -175,9 +175,9 @@ module _ (ws : List ℕ) (t : ℕ) (c : Cursor) (y : Ready ws t c.tree) where
         (λ p o. sym (x.pair p (spot_of (tree_of p c.tree) (path_in c)) o (own_at ws c z p o)))
         (λ p o. sym (x.cursor.to p (spot_of (tree_of p c.tree) (path_in c)) o (own_at ws c z p o)))
 
-    pub settle_moves : (d : Cursor) → Steps settle ws c d → Moves leaf_least to_settled c ws ws Nothing d
+    pub settle_moves : (d : Cursor) → Steps settle ws c d → Moves leaf_least to_settled c ws ws nothing d
     settle_moves d g =
-        moves_done to_settled (λ t s p. refl) c d ws Nothing y.sound
+        moves_done to_settled (λ t s p. refl) c d ws nothing y.sound
         (free_reads to_settled refl)
         (λ p o. refl)
         (λ p o. sym (g.to p (spot_of (tree_of p c.tree) (path_in c)) o (own_at ws c z p o)))
@@ -185,10 +185,10 @@ module _ (ws : List ℕ) (t : ℕ) (c : Cursor) (y : Ready ws t c.tree) where
 -- Calls by key: the first refusals
 
 pub gated_calls : (c : Call) (ws : List ℕ) (x : Refusal) → Sound leaf_least ws → ((p : Pool) → Of ws p → (rest : Option Refusal) → gate p (target c) rest ≡ some x) →
-    Calls leaf_least c ws ws (Refused x)
+    Calls leaf_least c ws ws (Err x)
 unfolding refused
 gated_calls c ws x s f =
-    let r : (p : Pool) → Of ws p → call c p ≡ record { answer = Refused x; pool = p } = λ p o. call-refused c p x (f p o _) in
+    let r : (p : Pool) → Of ws p → call c p ≡ record { answer = Err x; pool = p } = λ p o. call-refused c p x (f p o _) in
     record {
       sound_words = λ p w e. ap (λ d. encode d.pool) (r p (of ws p w e)) ∙ e;
       sound_answer = λ p w e. ap (λ d. d.answer) (r p (of ws p w e));
@@ -200,8 +200,8 @@ get_still : (tree k : ℕ) (p : Pool) → done (get tree k) p ≡ p
 unfolding done
 get_still tree k p = let e = set-get_or p.trees tree [] in λ i. record { trees = e i; count = p.count; free = p.free }
 
-pub get_calls : (ws : List ℕ) (t tree k : ℕ) → Ready ws t tree → (d : Cursor) (l : Look) (r : Reply) → Goes (seek k) ws tree d → Sees ws d l → r ≡ held_at l k →
-    Calls leaf_least (get tree k) ws ws r
+pub get_calls : (ws : List ℕ) (t tree k : ℕ) → Ready ws t tree → (d : Cursor) (l : Look) (r : rust.Option Hit) → Goes (seek k) ws tree d → Sees ws d l → r ≡ held_at l k →
+    Calls leaf_least (get tree k) ws ws (Ok r)
 get_calls ws t tree k y d l r g x e =
     let z : (p : Pool) → Of ws p → call (get tree k) p ≡ record { answer = held (get_tree k (tree_of p tree)); pool = done (get tree k) p } =
     λ p o. call-done (get tree k) p (call_free (get tree k) p (record { there = tree_there ws t tree y p o; enough = omega arith })) in
@@ -211,13 +211,3 @@ get_calls ws t tree k y d l r g x e =
       unsound_words = λ n. absurd (n y.sound);
       unsound_answer = λ n. absurd (n y.sound);
     }
-
--- put
-
-pub put-calls : (ws vs : List ℕ) (t tree k v : ℕ) (r : Reply) → Ready ws t tree → Puts tree k v ws vs r → Calls leaf_least (put tree k v) ws vs r
-put-calls ws vs t tree k v r y x = record {
-  sound_words = x.words;
-  sound_answer = x.answer;
-  unsound_words = λ n. absurd (n y.sound);
-  unsound_answer = λ n. absurd (n y.sound);
-}

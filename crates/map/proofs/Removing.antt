@@ -5,19 +5,18 @@ use mathlib.Core.Bool.{false}
 use mathlib.Core.Option.{Option, none, some}
 use Prim.Native.Nat.{ℕ, ◌+◌, ◌≤◌, ◌<◌}
 use native.Mathlib.Omega.{arith}
+use lib.ListN.{length, get_or}
 use Rattle.std.specs.Prelude.{Some, None}
 use Rattle.std.proofs.lemmas.Option.{none-some, same_Some}
-use lib.ListN.{length, get_or}
 use Rattle.forest.specs.Sizes.{leaf_least, most_levels}
 use lib.Dec.{eqb}
 use Rattle.forest.specs.Pairs.{Item, has, lookup}
 use Rattle.forest.specs.Trees.{pairs, get_tree}
 use Rattle.forest.specs.Pools.{Pool, WellFormed, encode, tree_of, remove, call}
 use Rattle.forest.specs.Cursors.{Spot, off, on, pair_at, leaves, seek, cursor_at, spot_of, path_in, to_remove, move}
-use Rattle.forest.specs.Answers.{held}
+use Rattle.forest.specs.Answers.{held, nothing, value}
 use Rattle.forest.specs.Promises.{Calls, Moves}
 use Rattle.forest.specs.declared.Cursor.{Cursor}
-use Rattle.forest.specs.declared.Reply.TheVariants as reply
 use Rattle.forest.proofs.ListLaws.{is, isnt, test}
 use Rattle.forest.proofs.TreeLaws.{pairs_get}
 use Rattle.forest.proofs.PoolLaws.{good_at}
@@ -66,7 +65,7 @@ module _ (ws : List ℕ) (t : ℕ) (c : Cursor) (y : Ready ws t c.tree) (z : Sta
         on_pair p (spot_of (tree_of p c.tree) (path_in c)) (k, v) (tree_there ws t c.tree y p (of ws p w b)) (own_at ws c z p (of ws p w b)) (pair_there k v e p (of ws p w b));
   }
 
-  pub removed_moves : (k v : ℕ) → l ≡ Some (k, v) → (vs : List ℕ) (d : Cursor) → Removes ws vs c d → Moves leaf_least to_remove c ws vs (reply.Value v) d
+  pub removed_moves : (k v : ℕ) → l ≡ Some (k, v) → (vs : List ℕ) (d : Cursor) → Removes ws vs c d → Moves leaf_least to_remove c ws vs (value v) d
   removed_moves k v e vs d r = record {
     sound_words = r.words;
     sound_answer = λ p w b.
@@ -77,9 +76,9 @@ module _ (ws : List ℕ) (t : ℕ) (c : Cursor) (y : Ready ws t c.tree) (z : Sta
     unsound_cursor = λ n. absurd (n y.sound);
   }
 
-  pub nothing_moves : length c.nodes ≡ most_levels → length c.places ≡ most_levels → l ≡ None → Moves leaf_least to_remove c ws ws reply.Nothing c
+  pub nothing_moves : length c.nodes ≡ most_levels → length c.places ≡ most_levels → l ≡ None → Moves leaf_least to_remove c ws ws nothing c
   nothing_moves ln lp e =
-      let r : (p : Pool) → Of ws p → move to_remove c p ≡ record { answer = reply.Nothing; cursor = c; pool = p } =
+      let r : (p : Pool) → Of ws p → move to_remove c p ≡ record { answer = nothing; cursor = c; pool = p } =
       λ p o. remove_none leaf_least (omega arith) (omega arith) p o.formed c ln lp (free_reads ws t c y z to_remove refl p o) (none_there e p o) in
       record {
         sound_words = λ p w b. ap (λ q. encode q.pool) (r p (of ws p w b)) ∙ b;
@@ -92,7 +91,7 @@ module _ (ws : List ℕ) (t : ℕ) (c : Cursor) (y : Ready ws t c.tree) (z : Sta
 
 -- By key
 
-pub held_nothing : (l : Look) (k : ℕ) → l ≡ None → held_at l k ≡ reply.Nothing
+pub held_nothing : (l : Look) (k : ℕ) → l ≡ None → held_at l k ≡ None
 held_nothing l k e = rw e
 
 has_none : (k : ℕ) (xs : List Item) → lookup k xs ≡ none → has k xs ≡ false
@@ -102,7 +101,7 @@ has_none k (u ∷ xs) e = elim (test (eqb k u.0)) [
   | isnt f ↦ simp f (has_none k xs (simp f at e))
 ]
 
-held_none : (o : Option ℕ) → held o ≡ reply.Nothing → o ≡ none
+held_none : (o : Option ℕ) → held o ≡ nothing → o ≡ none
 held_none none e = refl
 held_none (some v) e = absurd (let z : ◌≡◌ {A = ℕ} 0 1 = cc in omega arith)
 
@@ -122,7 +121,7 @@ module _ (ws : List ℕ) (t tree k : ℕ) (y : Ready ws t tree) (l : Look) (o : 
   ask_found : (h v : ℕ) → l ≡ Some (h, v) → AskRemove ws t d
   ask_found h v e = ask_remove ws t d ready_there stands_there l o.sees h v e
 
-  pub removed-calls : (h v : ℕ) → l ≡ Some (h, v) → h ≡ k → (vs : List ℕ) → RemovesKey ws vs tree k → Calls leaf_least (remove tree k) ws vs (reply.Value v)
+  pub removed-calls : (h v : ℕ) → l ≡ Some (h, v) → h ≡ k → (vs : List ℕ) → RemovesKey ws vs tree k → Calls leaf_least (remove tree k) ws vs (value v)
   removed-calls h v e i vs q =
       let e' : l ≡ Some (k, v) = e ∙ ap (λ (n : ℕ). Some (n, v)) i in
       let goes : (p : Pool) (w : WellFormed leaf_least p) → encode p ≡ ws → Gone p d (k, v) (move to_remove d p) =
@@ -135,14 +134,14 @@ module _ (ws : List ℕ) (t tree k : ℕ) (y : Ready ws t tree) (l : Look) (o : 
         unsound_answer = λ n. absurd (n y.sound);
       }
 
-  absent : held_at l k ≡ reply.Nothing → (p : Pool) → Of ws p → call (remove tree k) p ≡ record { answer = reply.Nothing; pool = p }
+  absent : held_at l k ≡ None → (p : Pool) → Of ws p → call (remove tree k) p ≡ record { answer = nothing; pool = p }
   absent e p f =
       let good = good_at leaf_least p.trees tree f.formed.good in
-      let a : get_tree k (tree_of p tree) ≡ none = held_none (get_tree k (tree_of p tree)) (seek-held ws t (cursor_at tree []) y k d l reply.Nothing o.goes o.sees (sym e) p f) in
+      let a : get_tree k (tree_of p tree) ≡ none = held_none (get_tree k (tree_of p tree)) (seek-held ws t (cursor_at tree []) y k d l None o.goes o.sees (sym e) p f) in
       let b : lookup k (pairs (tree_of p tree)) ≡ none = sym (pairs_get leaf_least 7 k (omega arith) (tree_of p tree) good) ∙ a in
       remove_absent leaf_least (omega arith) tree k p f.formed (tree_there ws t tree y p f) (has_none k (pairs (tree_of p tree)) b)
 
-  pub absent_calls : held_at l k ≡ reply.Nothing → Calls leaf_least (remove tree k) ws ws reply.Nothing
+  pub absent_calls : held_at l k ≡ None → Calls leaf_least (remove tree k) ws ws nothing
   absent_calls e = record {
     sound_words = λ p w b. ap (λ c. encode c.pool) (absent e p (of ws p w b)) ∙ b;
     sound_answer = λ p w b. ap (λ c. c.answer) (absent e p (of ws p w b));
@@ -155,11 +154,8 @@ module _ (ws : List ℕ) (t tree k r : ℕ) (y : Ready ws t tree) (w : r ≡ get
   root_word : r ≡ get_or ws (1 + tree) 0
   root_word = let z : 1 + tree ≡ tree + 1 = omega arith in rw z w
 
-  pub empty_calls : r ≡ 0 → Calls leaf_least (remove tree k) ws ws reply.Nothing
+  pub empty_calls : r ≡ 0 → Calls leaf_least (remove tree k) ws ws nothing
   empty_calls z = absent_calls ws t tree k y None (looks_empty ws t tree y k (sym root_word ∙ z)) refl
-
-  pub root_some : (r ≡ 0 → ⊥) → 1 ≤ get_or ws (1 + tree) 0
-  root_some z = rw (← root_word) (omega arith)
 
 -- the leaf n where the path of the key ends, at place e, and the look l there
 module _ (ws : List ℕ) (t tree k n e : ℕ) (y : Ready ws t tree) (d : Ends k ws tree n e) where

@@ -5,6 +5,7 @@ use Prim.Native.Nat.{ℕ}
 use native.Mathlib.Omega.{arith}
 use lib.ListN.{length, get_elem?}
 use borrow.Author.Tests.{lt-ltb, le-ltb, eq-eqb, ne_eqb}
+use Rattle.std.specs.Prelude.{Ok}
 use Rattle.forest.specs.Sizes.{leaf_least}
 use Rattle.forest.specs.Pairs.{Item, Rising, lookup, place}
 use Rattle.forest.specs.Rows.{Tree, Good}
@@ -18,7 +19,7 @@ use Rattle.forest.proofs.TreeLaws.{lands}
 use Rattle.path.specs.Cores.{look_of}
 use Rattle.map.specs.Gates.{held_at}
 
-held_place : (k : ℕ) (xs : List Item) → Rising xs → held_at (look_of (get_elem? xs (place k xs))) k ≡ held (lookup k xs)
+held_place : (k : ℕ) (xs : List Item) → Rising xs → Ok (held_at (look_of (get_elem? xs (place k xs))) k) ≡ held (lookup k xs)
 held_place k [] r = refl
 held_place k (x ∷ xs) r = elim (tri x.0 k) [
   | less h ↦ simp (lt-ltb x.0 k h, ne_eqb k x.0 (omega arith)) (held_place k xs r.1)
@@ -26,7 +27,7 @@ held_place k (x ∷ xs) r = elim (tri x.0 k) [
   | more h ↦ simp (le-ltb x.0 k (omega arith), ne_eqb k x.0 (omega arith), ne_eqb x.0 k (omega arith), lookup_above k xs (above_trans k x.0 xs h r.0))
 ]
 
-pub held_tree : (k : ℕ) (t : Tree) → Good leaf_least 7 t → held_at (look_of (pair_at (leaves t) (seek k (leaves t)))) k ≡ held (get_tree k t)
+pub held_tree : (k : ℕ) (t : Tree) → Good leaf_least 7 t → Ok (held_at (look_of (pair_at (leaves t) (seek k (leaves t)))) k) ≡ held (get_tree k t)
 unfolding get_tree
 held_tree k [] g = refl
 held_tree k (L ∷ Rs) g =

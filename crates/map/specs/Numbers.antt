@@ -4,10 +4,9 @@ use Rattle.forest.specs.Sizes.{leaf_least}
 use Rattle.forest.specs.Pools.{Call}
 use Rattle.forest.specs.Cursors.{Move}
 use Rattle.forest.specs.Promises.{Calls, Moves}
-use Rattle.forest.specs.Answers.{answer_of}
+use Rattle.forest.specs.Answers.{answer_of, Reply}
 use Rattle.forest.specs.declared.Answer.{Answer}
 use Rattle.forest.specs.declared.Cursor.{Cursor}
-use Rattle.forest.specs.declared.Reply.{Reply}
 
 -- a call by key: a is the answer that its reply is
 pub record AnswersCall (c : Call) (before after : List ℕ) (a : Answer) : Type 0 where

@@ -7,53 +7,70 @@ ghost use Rattle.forest.specs.Sizes.{leaf_least};
 ghost use Rattle.forest.specs.Pools.{Sound, get, put, remove};
 ghost use Rattle.forest.specs.Cursors.{to_first, to_key, to_next, to_prev, to_settled, to_remove};
 ghost use Rattle.forest.specs.Promises.{Calls, Moves};
-ghost use Rattle.map.specs.Gates.{Gates, Admits, Stood, Told, held_at};
+ghost use Rattle.map.specs.Gates.{Checks, Gates, Admits, Allows, Stood, Told, turned_back, held_at};
 
-use forest::{Cursor, Moved, Refusal, Reply};
+use forest::{Cursor, Hit, Moved, Refusal, Reply};
 
-// Whether a call may go on, with the number of trees.
-#[derive(Clone, Copy)]
-enum Pass {
-    Open(usize),
-    Shut(Refusal),
+
+// That the words are a sound pool, or why a call is refused.
+fn checked(ws: &[u32]) -> Result<(), Refusal>
+    ensures { Checks ws.now result }
+{
+    if !sound::check(ws) {
+        return Err(Refusal::Unsound);
+    }
+    Ok(())
 }
 
 // The number of trees, or that there is no such tree.
-fn gate(ws: &[u32], tree: u32) -> Pass
+fn gate(ws: &[u32], tree: u32) -> Result<usize, Refusal>
     requires { Sound leaf_least ws.now }
     ensures { Gates ws.now tree result }
 {
     let t = pool::tree_count(ws);
     if t <= tree as usize {
-        return Pass::Shut(Refusal::NoTree);
+        return Err(Refusal::NoTree);
     }
-    Pass::Open(t)
+    Ok(t)
 }
 
-// The number of trees, or that there is no such tree, or that the cursor does not stand.
-fn admit(ws: &[u32], at: Cursor) -> Pass
+// That the cursor stands, or that there is no such tree, or that it does not stand.
+fn admit(ws: &[u32], at: Cursor) -> Result<(), Refusal>
     requires { Sound leaf_least ws.now }
     ensures { Admits ws.now at result }
 {
-    match gate(ws, at.tree) {
-        Pass::Shut(why) => Pass::Shut(why),
-        Pass::Open(t) => {
-            if stand::stands(ws, t, at) {
-                Pass::Open(t)
-            } else {
-                Pass::Shut(Refusal::NoPlace)
-            }
-        }
+    let t = gate(ws, at.tree)?;
+    if !stand::stands(ws, t, at) {
+        return Err(Refusal::NoPlace);
+    }
+    Ok(())
+}
+
+// That the words are sound and the cursor stands in them, or why a move is refused.
+fn allow(ws: &[u32], at: Cursor) -> Result<(), Refusal>
+    ensures { Allows ws.now at result }
+{
+    checked(ws)?;
+    admit(ws, at)
+}
+
+// A move that is refused hands the cursor back.
+fn refused(why: Refusal, at: Cursor) -> Moved
+    ensures { result ≡ turned_back why at }
+{
+    Moved {
+        reply: Err(why),
+        cursor: at,
     }
 }
 
 // The value of a key, from a look at its place.
-fn held(look: Option<(u32, u32)>, key: u32) -> Reply
+fn held(look: Option<(u32, u32)>, key: u32) -> Option<Hit>
     ensures { result ≡ held_at look key }
 {
     match look {
-        Some((k, value)) if k == key => Reply::Value(value),
-        _ => Reply::Nothing,
+        Some((k, value)) if k == key => Some(Hit::Value(value)),
+        _ => None,
     }
 }
 
@@ -64,10 +81,7 @@ pub fn sound_stands(ws: &[u32], at: Cursor) -> bool
     requires { Sound leaf_least ws.now }
     ensures { Told ws.now at result }
 {
-    match admit(ws, at) {
-        Pass::Shut(why) => false,
-        Pass::Open(t) => true,
-    }
+    admit(ws, at).is_ok()
 }
 
 // The value of a key.
@@ -75,13 +89,8 @@ pub fn sound_get(ws: &[u32], tree: u32, key: u32) -> Reply
     requires { Sound leaf_least ws.now }
     ensures { Calls leaf_least (get tree key) ws.now ws.now result }
 {
-    match gate(ws, tree) {
-        Pass::Shut(why) => Reply::Refused(why),
-        Pass::Open(t) => {
-            let look = path::look_for(ws, t, tree, key);
-            held(look, key)
-        }
-    }
+    let t = gate(ws, tree)?;
+    Ok(held(path::look_for(ws, t, tree, key), key))
 }
 
 // Files a value under a key, in place of an earlier one, which is told.
@@ -89,10 +98,8 @@ pub fn sound_put(ws: &mut [u32], tree: u32, key: u32, value: u32) -> Reply
     requires { Sound leaf_least ws.old }
     ensures { Calls leaf_least (put tree key value) ws.old ws.new result }
 {
-    match gate(ws, tree) {
-        Pass::Shut(why) => Reply::Refused(why),
-        Pass::Open(t) => grow::put(ws, t, tree, key, value),
-    }
+    let t = gate(ws, tree)?;
+    grow::put(ws, t, tree, key, value)
 }
 
 // Takes a key out, and tells its value.
@@ -100,26 +107,22 @@ pub fn sound_remove(ws: &mut [u32], tree: u32, key: u32) -> Reply
     requires { Sound leaf_least ws.old }
     ensures { Calls leaf_least (remove tree key) ws.old ws.new result }
 {
-    match gate(ws, tree) {
-        Pass::Shut(why) => Reply::Refused(why),
-        Pass::Open(t) => {
-            if pool::root(ws, tree) == 0 {
-                return Reply::Nothing;
-            }
-            let foot = path::find_leaf(ws, t, tree, key);
-            let n = foot.node;
-            let at = foot.place;
-            let look = path::look_in(ws, t, n, at);
-            let Some((k, value)) = look else {
-                return Reply::Nothing;
-            };
-            if k != key {
-                return Reply::Nothing;
-            }
-            remove::remove_key(ws, t, tree, key, n, at);
-            Reply::Value(value)
-        }
+    let t = gate(ws, tree)?;
+    if pool::root(ws, tree) == 0 {
+        return Ok(None);
     }
+    let foot = path::find_leaf(ws, t, tree, key);
+    let n = foot.node;
+    let at = foot.place;
+    let look = path::look_in(ws, t, n, at);
+    let Some((k, value)) = look else {
+        return Ok(None);
+    };
+    if k != key {
+        return Ok(None);
+    }
+    remove::remove_key(ws, t, tree, key, n, at);
+    Ok(Some(Hit::Value(value)))
 }
 
 // Go to a key and tell its value, or to where it would be put.
@@ -128,14 +131,11 @@ pub fn sound_seek(ws: &[u32], at: Cursor, key: u32) -> Moved
     ensures { Moves leaf_least (to_key key) at ws.now ws.now result.reply result.cursor }
 {
     match gate(ws, at.tree) {
-        Pass::Shut(why) => Moved {
-            reply: Reply::Refused(why),
-            cursor: at,
-        },
-        Pass::Open(t) => {
+        Err(why) => refused(why, at),
+        Ok(t) => {
             let c = path::find(ws, t, at.tree, key);
             Moved {
-                reply: held(path::look_at(ws, t, c), key),
+                reply: Ok(held(path::look_at(ws, t, c), key)),
                 cursor: c,
             }
         }
@@ -148,11 +148,8 @@ pub fn sound_first(ws: &[u32], at: Cursor) -> Moved
     ensures { Moves leaf_least to_first at ws.now ws.now result.reply result.cursor }
 {
     match gate(ws, at.tree) {
-        Pass::Shut(why) => Moved {
-            reply: Reply::Refused(why),
-            cursor: at,
-        },
-        Pass::Open(t) => {
+        Err(why) => refused(why, at),
+        Ok(t) => {
             let c = path::first(ws, t, at.tree);
             moves::seen(ws, t, c)
         }
@@ -167,7 +164,7 @@ pub fn sound_settle(ws: &[u32], at: Cursor) -> Moved
     let t = pool::tree_count(ws);
     let c = moves::normalize(ws, t, at);
     Moved {
-        reply: Reply::Nothing,
+        reply: Ok(None),
         cursor: c,
     }
 }
@@ -200,13 +197,13 @@ pub fn sound_remove_at(ws: &mut [u32], at: Cursor) -> Moved
     let look = path::look_at(ws, t, at);
     let Some((_, value)) = look else {
         return Moved {
-            reply: Reply::Nothing,
+            reply: Ok(None),
             cursor: at,
         };
     };
     let c = remove::remove(ws, t, at);
     Moved {
-        reply: Reply::Value(value),
+        reply: Ok(Some(Hit::Value(value))),
         cursor: c,
     }
 }
@@ -217,9 +214,7 @@ pub fn sound_remove_at(ws: &mut [u32], at: Cursor) -> Moved
 pub fn get(ws: &[u32], tree: u32, key: u32) -> Reply
     ensures { Calls leaf_least (get tree key) ws.now ws.now result }
 {
-    if !sound::check(ws) {
-        return Reply::Refused(Refusal::Unsound);
-    }
+    checked(ws)?;
     sound_get(ws, tree, key)
 }
 
@@ -227,9 +222,7 @@ pub fn get(ws: &[u32], tree: u32, key: u32) -> Reply
 pub fn put(ws: &mut [u32], tree: u32, key: u32, value: u32) -> Reply
     ensures { Calls leaf_least (put tree key value) ws.old ws.new result }
 {
-    if !sound::check(ws) {
-        return Reply::Refused(Refusal::Unsound);
-    }
+    checked(ws)?;
     sound_put(ws, tree, key, value)
 }
 
@@ -237,9 +230,7 @@ pub fn put(ws: &mut [u32], tree: u32, key: u32, value: u32) -> Reply
 pub fn remove(ws: &mut [u32], tree: u32, key: u32) -> Reply
     ensures { Calls leaf_least (remove tree key) ws.old ws.new result }
 {
-    if !sound::check(ws) {
-        return Reply::Refused(Refusal::Unsound);
-    }
+    checked(ws)?;
     sound_remove(ws, tree, key)
 }
 
@@ -247,44 +238,29 @@ pub fn remove(ws: &mut [u32], tree: u32, key: u32) -> Reply
 pub fn seek(ws: &[u32], at: Cursor, key: u32) -> Moved
     ensures { Moves leaf_least (to_key key) at ws.now ws.now result.reply result.cursor }
 {
-    if !sound::check(ws) {
-        return Moved {
-            reply: Reply::Refused(Refusal::Unsound),
-            cursor: at,
-        };
+    match checked(ws) {
+        Err(why) => refused(why, at),
+        Ok(()) => sound_seek(ws, at, key),
     }
-    sound_seek(ws, at, key)
 }
 
 // Go to the first pair, and tell it.
 pub fn first(ws: &[u32], at: Cursor) -> Moved
     ensures { Moves leaf_least to_first at ws.now ws.now result.reply result.cursor }
 {
-    if !sound::check(ws) {
-        return Moved {
-            reply: Reply::Refused(Refusal::Unsound),
-            cursor: at,
-        };
+    match checked(ws) {
+        Err(why) => refused(why, at),
+        Ok(()) => sound_first(ws, at),
     }
-    sound_first(ws, at)
 }
 
 // From one past a leaf's last entry go to the pair after it; nothing is told.
 pub fn settle(ws: &[u32], at: Cursor) -> Moved
     ensures { Moves leaf_least to_settled at ws.now ws.now result.reply result.cursor }
 {
-    if !sound::check(ws) {
-        return Moved {
-            reply: Reply::Refused(Refusal::Unsound),
-            cursor: at,
-        };
-    }
-    match admit(ws, at) {
-        Pass::Shut(why) => Moved {
-            reply: Reply::Refused(why),
-            cursor: at,
-        },
-        Pass::Open(t) => sound_settle(ws, at),
+    match allow(ws, at) {
+        Err(why) => refused(why, at),
+        Ok(()) => sound_settle(ws, at),
     }
 }
 
@@ -292,18 +268,9 @@ pub fn settle(ws: &[u32], at: Cursor) -> Moved
 pub fn next(ws: &[u32], at: Cursor) -> Moved
     ensures { Moves leaf_least to_next at ws.now ws.now result.reply result.cursor }
 {
-    if !sound::check(ws) {
-        return Moved {
-            reply: Reply::Refused(Refusal::Unsound),
-            cursor: at,
-        };
-    }
-    match admit(ws, at) {
-        Pass::Shut(why) => Moved {
-            reply: Reply::Refused(why),
-            cursor: at,
-        },
-        Pass::Open(t) => sound_next(ws, at),
+    match allow(ws, at) {
+        Err(why) => refused(why, at),
+        Ok(()) => sound_next(ws, at),
     }
 }
 
@@ -311,18 +278,9 @@ pub fn next(ws: &[u32], at: Cursor) -> Moved
 pub fn prev(ws: &[u32], at: Cursor) -> Moved
     ensures { Moves leaf_least to_prev at ws.now ws.now result.reply result.cursor }
 {
-    if !sound::check(ws) {
-        return Moved {
-            reply: Reply::Refused(Refusal::Unsound),
-            cursor: at,
-        };
-    }
-    match admit(ws, at) {
-        Pass::Shut(why) => Moved {
-            reply: Reply::Refused(why),
-            cursor: at,
-        },
-        Pass::Open(t) => sound_prev(ws, at),
+    match allow(ws, at) {
+        Err(why) => refused(why, at),
+        Ok(()) => sound_prev(ws, at),
     }
 }
 
@@ -330,17 +288,8 @@ pub fn prev(ws: &[u32], at: Cursor) -> Moved
 pub fn remove_at(ws: &mut [u32], at: Cursor) -> Moved
     ensures { Moves leaf_least to_remove at ws.old ws.new result.reply result.cursor }
 {
-    if !sound::check(ws) {
-        return Moved {
-            reply: Reply::Refused(Refusal::Unsound),
-            cursor: at,
-        };
-    }
-    match admit(ws, at) {
-        Pass::Shut(why) => Moved {
-            reply: Reply::Refused(why),
-            cursor: at,
-        },
-        Pass::Open(t) => sound_remove_at(ws, at),
+    match allow(ws, at) {
+        Err(why) => refused(why, at),
+        Ok(()) => sound_remove_at(ws, at),
     }
 }

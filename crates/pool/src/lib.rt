@@ -6,7 +6,7 @@ ghost use Rattle.forest.specs.Pools.{formatted, format_words, format_answer, enc
 ghost use Rattle.pool.specs.Stores.{block, with_block, patched, stack_at, free_count, top_node, taken_words, freed_words, down};
 ghost use Rattle.pool.specs.Stores.{Placed, Stocked, Freeable};
 
-use forest::{MAX_NODES, MAX_TREES, NODE_SIZE};
+use forest::{MAX_NODES, MAX_TREES, NODE_SIZE, Refusal, Reply};
 
 // The number of trees, T. It is handed along as `t`.
 pub fn tree_count(ws: &[u32]) -> usize
@@ -152,13 +152,13 @@ fn lay_out(ws: &mut [u32], trees: u32, nodes: u32)
 
 // Makes the words those of a fresh pool; refused, exactly, if T or N is out of range or the length is another.
 #[tactic(auto, using(forest::proofs::CountLaws::format_in), unfolding(forest::specs::Pools::format_words, forest::specs::Pools::format_answer))]
-pub fn format(ws: &mut [u32], trees: u32, nodes: u32) -> forest::Reply
+pub fn format(ws: &mut [u32], trees: u32, nodes: u32) -> Reply
     ensures words { ws.new ≡ format_words trees nodes ws.old }
     ensures answer { result ≡ format_answer trees nodes ws.old }
 {
     if !format_fits(ws.len(), trees, nodes) {
-        return forest::Reply::Refused(forest::Refusal::NoFormat);
+        return Err(Refusal::NoFormat);
     }
     lay_out(ws, trees, nodes);
-    forest::Reply::Nothing
+    Ok(None)
 }

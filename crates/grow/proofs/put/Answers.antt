@@ -1,7 +1,4 @@
 -- `grow::put` meets its contract. An empty tree; the key is there; its leaf has room, or not. Assumes nothing.
-use mathlib.Core.Path.{ap}
-use denote.Enum.Declared
-use Rattle.forest.specs.contracts.Reply as ReplyType
 use Rattle.grow.proofs.Putting
 use Rattle.grow.proofs.PutAt
 use Rattle.grow.proofs.put.Goals as goal
@@ -16,30 +13,30 @@ find_leaf-foot-requires c = record {
   bound = PutAt.some_root c.args.ws.now c.args.tree c.root.result c.root.ensures c.if-root-eq0.false;
 }
 
-pub replace-found-requires : goal.replace-found-requires
-replace-found-requires c =
+pub replace-requires : goal.replace-requires
+replace-requires c =
     PutAt.place_asks c.args.ws.now c.args.t c.args.tree c.args.key c.args.value c.requires (PutAt.some_root c.args.ws.now c.args.tree c.root.result c.root.ensures c.if-root-eq0.false) c.find_leaf-foot.result.node c.find_leaf-foot.result.place c.find_leaf-foot.ensures
 
-pub returns-in-Value : goal.returns-in-Value
-returns-in-Value c =
-    PutAt.replaced c.args.ws.now c.args.t c.args.tree c.args.key c.args.value c.requires (PutAt.some_root c.args.ws.now c.args.tree c.root.result c.root.ensures c.if-root-eq0.false) c.find_leaf-foot.result.node c.find_leaf-foot.result.place c.find_leaf-foot.ensures c.replace-found.new.ws c.replace-found.result c.replace-found.ensures (Putting.no_nothing _ (ap (Declared.tag_of ReplyType.the_type) c.in-Value.is))
+pub returns-in-Some : goal.returns-in-Some
+returns-in-Some c =
+    PutAt.replaced c.args.ws.now c.args.t c.args.tree c.args.key c.args.value c.requires (PutAt.some_root c.args.ws.now c.args.tree c.root.result c.root.ensures c.if-root-eq0.false) c.find_leaf-foot.result.node c.find_leaf-foot.result.place c.find_leaf-foot.ensures c.replace.new.ws c.replace.result c.replace.ensures c.in-Some.earlier c.in-Some.is
 
 pub try_leaf_insert-requires : goal.try_leaf_insert-requires
 try_leaf_insert-requires c =
-    PutAt.still_place c.args.ws.now c.args.t c.args.tree c.args.key c.args.value c.requires (PutAt.some_root c.args.ws.now c.args.tree c.root.result c.root.ensures c.if-root-eq0.false) c.find_leaf-foot.result.node c.find_leaf-foot.result.place c.find_leaf-foot.ensures c.replace-found.new.ws c.replace-found.result c.replace-found.ensures c.in_default.not-Value
+    PutAt.still_place c.args.ws.now c.args.t c.args.tree c.args.key c.args.value c.requires (PutAt.some_root c.args.ws.now c.args.tree c.root.result c.root.ensures c.if-root-eq0.false) c.find_leaf-foot.result.node c.find_leaf-foot.result.place c.find_leaf-foot.ensures c.replace.new.ws c.replace.result c.replace.ensures c.in_default.not-Some
 
 pub returns-then-try_leaf_insert : goal.returns-then-try_leaf_insert
 returns-then-try_leaf_insert c =
-    PutAt.came c.args.ws.now c.args.t c.args.tree c.args.key c.args.value c.requires (PutAt.some_root c.args.ws.now c.args.tree c.root.result c.root.ensures c.if-root-eq0.false) c.find_leaf-foot.result.node c.find_leaf-foot.result.place c.find_leaf-foot.ensures c.replace-found.new.ws c.replace-found.result c.replace-found.ensures c.in_default.not-Value c.try_leaf_insert.new.ws c.try_leaf_insert.result c.try_leaf_insert.ensures c.if-try_leaf_insert.true
+    PutAt.came c.args.ws.now c.args.t c.args.tree c.args.key c.args.value c.requires (PutAt.some_root c.args.ws.now c.args.tree c.root.result c.root.ensures c.if-root-eq0.false) c.find_leaf-foot.result.node c.find_leaf-foot.result.place c.find_leaf-foot.ensures c.replace.new.ws c.replace.result c.replace.ensures c.in_default.not-Some c.try_leaf_insert.new.ws c.try_leaf_insert.result c.try_leaf_insert.ensures c.if-try_leaf_insert.true
 
 pub find-c-requires : goal.find-c-requires
 find-c-requires c =
-    PutAt.still_ready c.args.ws.now c.args.t c.args.tree c.args.key c.args.value c.requires (PutAt.some_root c.args.ws.now c.args.tree c.root.result c.root.ensures c.if-root-eq0.false) c.find_leaf-foot.result.node c.find_leaf-foot.result.place c.find_leaf-foot.ensures c.replace-found.new.ws c.replace-found.result c.replace-found.ensures c.in_default.not-Value c.try_leaf_insert.new.ws c.try_leaf_insert.result c.try_leaf_insert.ensures c.if-try_leaf_insert.false
+    PutAt.still_ready c.args.ws.now c.args.t c.args.tree c.args.key c.args.value c.requires (PutAt.some_root c.args.ws.now c.args.tree c.root.result c.root.ensures c.if-root-eq0.false) c.find_leaf-foot.result.node c.find_leaf-foot.result.place c.find_leaf-foot.ensures c.replace.new.ws c.replace.result c.replace.ensures c.in_default.not-Some c.try_leaf_insert.new.ws c.try_leaf_insert.result c.try_leaf_insert.ensures c.if-try_leaf_insert.false
 
 pub add-requires : goal.add-requires
 add-requires c =
-    PutAt.add_asks c.args.ws.now c.args.t c.args.tree c.args.key c.args.value c.requires (PutAt.some_root c.args.ws.now c.args.tree c.root.result c.root.ensures c.if-root-eq0.false) c.find_leaf-foot.result.node c.find_leaf-foot.result.place c.find_leaf-foot.ensures c.replace-found.new.ws c.replace-found.result c.replace-found.ensures c.in_default.not-Value c.try_leaf_insert.new.ws c.try_leaf_insert.result c.try_leaf_insert.ensures c.if-try_leaf_insert.false c.find-c.result c.find-c.ensures
+    PutAt.add_asks c.args.ws.now c.args.t c.args.tree c.args.key c.args.value c.requires (PutAt.some_root c.args.ws.now c.args.tree c.root.result c.root.ensures c.if-root-eq0.false) c.find_leaf-foot.result.node c.find_leaf-foot.result.place c.find_leaf-foot.ensures c.replace.new.ws c.replace.result c.replace.ensures c.in_default.not-Some c.try_leaf_insert.new.ws c.try_leaf_insert.result c.try_leaf_insert.ensures c.if-try_leaf_insert.false c.find-c.result c.find-c.ensures
 
 pub returns : goal.returns
 returns c =
-    PutAt.added c.args.ws.now c.args.t c.args.tree c.args.key c.args.value c.requires (PutAt.some_root c.args.ws.now c.args.tree c.root.result c.root.ensures c.if-root-eq0.false) c.find_leaf-foot.result.node c.find_leaf-foot.result.place c.find_leaf-foot.ensures c.replace-found.new.ws c.replace-found.result c.replace-found.ensures c.in_default.not-Value c.try_leaf_insert.new.ws c.try_leaf_insert.result c.try_leaf_insert.ensures c.if-try_leaf_insert.false c.find-c.result c.find-c.ensures c.add.new.ws c.add.result c.add.ensures
+    PutAt.added c.args.ws.now c.args.t c.args.tree c.args.key c.args.value c.requires (PutAt.some_root c.args.ws.now c.args.tree c.root.result c.root.ensures c.if-root-eq0.false) c.find_leaf-foot.result.node c.find_leaf-foot.result.place c.find_leaf-foot.ensures c.replace.new.ws c.replace.result c.replace.ensures c.in_default.not-Some c.try_leaf_insert.new.ws c.try_leaf_insert.result c.try_leaf_insert.ensures c.if-try_leaf_insert.false c.find-c.result c.find-c.ensures c.add.new.ws c.add.result c.add.ensures

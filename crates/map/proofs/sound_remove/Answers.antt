@@ -1,6 +1,7 @@
-use mathlib.Core.Path.{sym, ◌∙◌}
+use mathlib.Core.Path.{refl, sym, ◌∙◌}
 use native.Mathlib.Omega.{arith}
 use Rattle.forest.specs.Pools.{remove}
+use Rattle.std.proofs.lemmas.Result.{err_from_is_err_and}
 use Rattle.path.proofs.Roots.{root-place}
 use Rattle.path.proofs.Foots.{ends_in, ends_looks}
 use Rattle.map.proofs.Gating.{held_other}
@@ -10,16 +11,16 @@ use Rattle.map.proofs.sound_remove.Goals as goal
 
 pub root-requires : goal.root-requires
 root-requires c =
-    let y = c.gate.ensures.passes c.in-Open.t c.in-Open.is in
+    let y = c.in_ok-t.ensures.passes _ refl in
     omega (arith, root-place c.args.ws.now _ c.args.tree y)
 
 pub returns-then-root-eq0 : goal.returns-then-root-eq0
 returns-then-root-eq0 c =
-    let y = c.gate.ensures.passes c.in-Open.t c.in-Open.is in
+    let y = c.in_ok-t.ensures.passes _ refl in
     empty_calls c.args.ws.now _ c.args.tree c.args.key _ y c.root.ensures c.if-root-eq0.true
 
 pub look_in-look-requires : goal.look_in-look-requires
-look_in-look-requires c = let y = c.gate.ensures.passes c.in-Open.t c.in-Open.is in
+look_in-look-requires c = let y = c.in_ok-t.ensures.passes _ refl in
     let d = c.find_leaf-foot.ensures in record {
       leaf_in = ends_in c.args.ws.now _ c.args.tree y c.args.key _ _ d;
       e_bound = place_few c.args.ws.now _ c.args.tree c.args.key _ _ y d;
@@ -27,27 +28,28 @@ look_in-look-requires c = let y = c.gate.ensures.passes c.in-Open.t c.in-Open.is
 
 pub returns-in_default : goal.returns-in_default
 returns-in_default c =
-    let y = c.gate.ensures.passes c.in-Open.t c.in-Open.is in
+    let y = c.in_ok-t.ensures.passes _ refl in
     let o = ends_looks c.args.ws.now _ c.args.tree y c.args.key _ _ c.find_leaf-foot.ensures in
     absent_calls c.args.ws.now _ c.args.tree c.args.key y _ o (held_nothing _ _ (sym c.look_in-look.ensures ∙ c.in_default.is))
 
 pub returns-then-k-key : goal.returns-then-k-key
 returns-then-k-key c =
-    let y = c.gate.ensures.passes c.in-Open.t c.in-Open.is in
+    let y = c.in_ok-t.ensures.passes _ refl in
     let o = ends_looks c.args.ws.now _ c.args.tree y c.args.key _ _ c.find_leaf-foot.ensures in
     absent_calls c.args.ws.now _ c.args.tree c.args.key y _ o (sym (held_other _ _ _ _ (sym c.look_in-look.ensures ∙ c.in-Some.is) c.if-k-key.true))
 
 pub remove_key-requires : goal.remove_key-requires
 remove_key-requires c =
-    let y = c.gate.ensures.passes c.in-Open.t c.in-Open.is in
+    let y = c.in_ok-t.ensures.passes _ refl in
     ask_key c.args.ws.now _ c.args.tree c.args.key _ _ y c.find_leaf-foot.ensures _ _ (sym c.look_in-look.ensures ∙ c.in-Some.is)
 
-pub returns-in-Shut : goal.returns-in-Shut
-returns-in-Shut c =
-    gated_calls (remove c.args.tree c.args.key) c.args.ws.now c.in-Shut.why c.requires (c.gate.ensures.shut c.in-Shut.why c.in-Shut.is)
-
-pub returns-else-k-key : goal.returns-else-k-key
-returns-else-k-key c =
-    let y = c.gate.ensures.passes c.in-Open.t c.in-Open.is in
+pub returns : goal.returns
+returns c =
+    let y = c.in_ok-t.ensures.passes _ refl in
     let o = ends_looks c.args.ws.now _ c.args.tree y c.args.key _ _ c.find_leaf-foot.ensures in
     removed-calls c.args.ws.now _ c.args.tree c.args.key y _ o _ _ (sym c.look_in-look.ensures ∙ c.in-Some.is) c.if-k-key.false _ c.remove_key.ensures
+
+pub returns-in_err-t : goal.returns-in_err-t
+returns-in_err-t c =
+    let p = err_from_is_err_and c.from_residual.result c.from_residual.ensures.1 in
+    rw (p.1, p.2) (gated_calls (remove c.args.tree c.args.key) c.args.ws.now _ c.requires (c.in_err-t.ensures.shut _ refl))
