@@ -10,7 +10,7 @@ ghost use Rattle.node.specs.declared.Removed.{Removed};
 
 use crit::Near;
 use forest::Cursor;
-use node::{InnerNode, LeafNode, Removed};
+use node::{Balanced, InnerNode, LeafNode, Removed};
 
 // The parent of the node at a level loses that child.
 fn cut_parent(ws: &mut [u32], t: usize, c: Cursor, level: usize) -> Removed
@@ -51,18 +51,19 @@ fn join(ws: &mut [u32], t: usize, c: Cursor, level: usize, key: u32, node: u32) 
     let n = c.nodes[level];
     let w = pool::load(ws, t, n);
     let v = pool::load(ws, t, node);
-    let b = node::balance::<InnerNode>(w, v, key);
-    let right = b.right;
-    if b.all {
-        pool::store(ws, t, node, right);
-        crit::hand_crit_key(ws, t, c, level);
-        return true;
+    match node::balance::<InnerNode>(w, v, key) {
+        Balanced::Merged(all) => {
+            pool::store(ws, t, node, all);
+            crit::hand_crit_key(ws, t, c, level);
+            true
+        }
+        Balanced::Shared(halves) => {
+            pool::store(ws, t, n, halves.left);
+            pool::store(ws, t, node, halves.right);
+            crit::update_right_crit_key(ws, t, c, level, halves.key);
+            false
+        }
     }
-    let left = b.left;
-    pool::store(ws, t, n, left);
-    pool::store(ws, t, node, right);
-    crit::update_right_crit_key(ws, t, c, level, b.key);
-    false
 }
 
 // After a child of the node at a level went: checks its health and rebalances as needed.
@@ -145,18 +146,19 @@ fn join_leaf(ws: &mut [u32], t: usize, c: Cursor, level: usize, node: u32) -> bo
     let n = c.nodes[level];
     let w = pool::load(ws, t, n);
     let v = pool::load(ws, t, node);
-    let b = node::balance::<LeafNode>(w, v, 0);
-    let right = b.right;
-    if b.all {
-        pool::store(ws, t, node, right);
-        crit::hand_crit_key(ws, t, c, level);
-        return true;
+    match node::balance::<LeafNode>(w, v, 0) {
+        Balanced::Merged(all) => {
+            pool::store(ws, t, node, all);
+            crit::hand_crit_key(ws, t, c, level);
+            true
+        }
+        Balanced::Shared(halves) => {
+            pool::store(ws, t, n, halves.left);
+            pool::store(ws, t, node, halves.right);
+            crit::update_right_crit_key(ws, t, c, level, halves.key);
+            false
+        }
     }
-    let left = b.left;
-    pool::store(ws, t, n, left);
-    pool::store(ws, t, node, right);
-    crit::update_right_crit_key(ws, t, c, level, b.key);
-    false
 }
 
 // The leaf has underflowed: it balances with its right sibling.

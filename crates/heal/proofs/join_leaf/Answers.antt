@@ -10,26 +10,26 @@ load-w-requires c = JoinLaws.here_placed leaf_kind LeafLaws.leaf_law LeafLaws.le
 pub load-v-requires : goal.load-v-requires
 load-v-requires c = JoinLaws.mate_placed leaf_kind LeafLaws.leaf_law LeafLaws.leaf_length c.requires.ask
 
-pub balance-b-requires : goal.balance-b-requires
-balance-b-requires c = (LeafLaws.held_leaf (JoinLaws.here leaf_kind LeafLaws.leaf_law LeafLaws.leaf_length c.requires.ask.heal) _ (JoinLaws.here_words leaf_kind LeafLaws.leaf_law LeafLaws.leaf_length c.requires.ask.heal _ c.load-w.ensures), LeafLaws.held_leaf (JoinLaws.mate leaf_kind LeafLaws.leaf_law LeafLaws.leaf_length c.requires.ask) _ (JoinLaws.mate_words leaf_kind LeafLaws.leaf_law LeafLaws.leaf_length c.requires.ask _ c.load-v.ensures))
+pub balance-requires : goal.balance-requires
+balance-requires c = (LeafLaws.held_leaf (JoinLaws.here leaf_kind LeafLaws.leaf_law LeafLaws.leaf_length c.requires.ask.heal) _ (JoinLaws.here_words leaf_kind LeafLaws.leaf_law LeafLaws.leaf_length c.requires.ask.heal _ c.load-w.ensures), LeafLaws.held_leaf (JoinLaws.mate leaf_kind LeafLaws.leaf_law LeafLaws.leaf_length c.requires.ask) _ (JoinLaws.mate_words leaf_kind LeafLaws.leaf_law LeafLaws.leaf_length c.requires.ask _ c.load-v.ensures))
 
 pub store-requires : goal.store-requires
 store-requires c = JoinLaws.mate_placed leaf_kind LeafLaws.leaf_law LeafLaws.leaf_length c.requires.ask
 
 pub hand_crit_key-requires : goal.hand_crit_key-requires
-hand_crit_key-requires c = JoinLaws.way_gathered leaf_kind LeafLaws.leaf_law LeafLaws.leaf_length c.requires.ask _ _ c.load-w.ensures c.load-v.ensures _ c.balance-b.result c.balance-b.ensures (LeafLaws.both-length c.load-w.result c.load-v.result) refl refl refl refl _ c.store.ensures
+hand_crit_key-requires c = JoinLaws.way_gathered leaf_kind LeafLaws.leaf_law LeafLaws.leaf_length c.requires.ask _ _ c.load-w.ensures c.load-v.ensures _ (LeafLaws.both-length c.load-w.result c.load-v.result) refl refl refl refl c.in-Merged.all c.in-Merged.ensures _ c.store.ensures
 
-pub returns-then-b : goal.returns-then-b
-returns-then-b c = JoinLaws.joined_all leaf_kind LeafLaws.leaf_law LeafLaws.leaf_length c.requires.ask _ _ c.load-w.ensures c.load-v.ensures _ c.balance-b.result c.balance-b.ensures (LeafLaws.both-length c.load-w.result c.load-v.result) refl refl refl refl _ c.store.ensures c.if-b.true c.hand_crit_key.ensures
+pub returns-in-Merged : goal.returns-in-Merged
+returns-in-Merged c = JoinLaws.joined_all leaf_kind LeafLaws.leaf_law LeafLaws.leaf_length c.requires.ask _ _ c.load-w.ensures c.load-v.ensures _ (LeafLaws.both-length c.load-w.result c.load-v.result) refl refl refl refl c.in-Merged.all c.in-Merged.ensures _ c.store.ensures c.hand_crit_key.ensures
 
-pub store-requires-2 : goal.store-requires-2
-store-requires-2 c = JoinLaws.here_placed leaf_kind LeafLaws.leaf_law LeafLaws.leaf_length c.requires.ask.heal
+pub store-requires-in-Shared : goal.store-requires-in-Shared
+store-requires-in-Shared c = JoinLaws.here_placed leaf_kind LeafLaws.leaf_law LeafLaws.leaf_length c.requires.ask.heal
 
-pub store-requires-3 : goal.store-requires-3
-store-requires-3 c = JoinLaws.left_placed leaf_kind LeafLaws.leaf_law LeafLaws.leaf_length c.requires.ask _ _ c.load-w.ensures c.load-v.ensures _ c.balance-b.result c.balance-b.ensures (LeafLaws.both-length c.load-w.result c.load-v.result) refl refl refl refl c.if-b.false _ _ c.store-2.ensures refl
+pub store-requires-in-Shared-2 : goal.store-requires-in-Shared-2
+store-requires-in-Shared-2 c = JoinLaws.left_placed leaf_kind LeafLaws.leaf_law LeafLaws.leaf_length c.requires.ask _ _ c.load-w.ensures c.load-v.ensures _ (LeafLaws.both-length c.load-w.result c.load-v.result) refl refl refl refl c.in-Shared.halves c.in-Shared.ensures _ _ c.store-in-Shared.ensures refl
 
 pub update_right_crit_key-requires : goal.update_right_crit_key-requires
-update_right_crit_key-requires c = JoinLaws.way_shared leaf_kind LeafLaws.leaf_law LeafLaws.leaf_length c.requires.ask _ _ c.load-w.ensures c.load-v.ensures _ c.balance-b.result c.balance-b.ensures (LeafLaws.both-length c.load-w.result c.load-v.result) refl refl refl refl c.if-b.false _ _ c.store-2.ensures c.store-3.ensures
+update_right_crit_key-requires c = JoinLaws.way_shared leaf_kind LeafLaws.leaf_law LeafLaws.leaf_length c.requires.ask _ _ c.load-w.ensures c.load-v.ensures _ (LeafLaws.both-length c.load-w.result c.load-v.result) refl refl refl refl c.in-Shared.halves c.in-Shared.ensures _ _ c.store-in-Shared.ensures c.store-in-Shared-2.ensures
 
-pub returns : goal.returns
-returns c = JoinLaws.joined_some leaf_kind LeafLaws.leaf_law LeafLaws.leaf_length c.requires.ask _ _ c.load-w.ensures c.load-v.ensures _ c.balance-b.result c.balance-b.ensures (LeafLaws.both-length c.load-w.result c.load-v.result) refl refl refl refl c.if-b.false _ _ c.store-2.ensures c.store-3.ensures c.update_right_crit_key.ensures
+pub returns-in-Shared : goal.returns-in-Shared
+returns-in-Shared c = JoinLaws.joined_some leaf_kind LeafLaws.leaf_law LeafLaws.leaf_length c.requires.ask _ _ c.load-w.ensures c.load-v.ensures _ (LeafLaws.both-length c.load-w.result c.load-v.result) refl refl refl refl c.in-Shared.halves c.in-Shared.ensures _ _ c.store-in-Shared.ensures c.store-in-Shared-2.ensures c.update_right_crit_key.ensures
