@@ -10,16 +10,17 @@ use lib.Dec.{ltb, leb}
 use borrow.Author.Tests.{lt-ltb, le-ltb}
 use Rattle.forest.specs.Lists.{remove_at, parent, offset}
 use Rattle.forest.specs.Pairs.{Item}
-use Rattle.forest.specs.Rows.{front, nums, sizes}
+use Rattle.forest.specs.Rows.{nums, sizes}
 use Rattle.forest.specs.declared.Cursor.{Cursor}
 use Rattle.forest.proofs.ListLaws.{is, isnt, test, length-remove_at, offset_lt}
 use Rattle.forest.proofs.RowLaws.{fill_at}
 use Rattle.pool.specs.Stores.{put, block, with_block, Placed}
-use Rattle.node.specs.Nodes.{status_of, keep, keyed, cut_of, balance_of}
-use Rattle.node.specs.declared.Balanced.{Balanced}
+use Rattle.node.specs.Nodes.{status_of, keep, keyed, cut_of, split_of, balance_of}
+use Rattle.node.specs.declared.SplitOff.{SplitOff}
+use Rattle.node.specs.declared.Balanced.TheVariants.{Merged, Shared}
 use Rattle.node.specs.declared.Removed.{Removed}
 use Rattle.node.specs.declared.Removed.TheVariants.{Underflow}
-use Rattle.node.proofs.OnItems.{balance_flag, balance_fits, balance_over}
+use Rattle.node.proofs.OnItems.{is_merged, is_shared}
 use Rattle.crit.specs.States.{right_sibling, right_set, hand_key, stored}
 use Rattle.crit.specs.Asks.{Mem, moved, Spelt, Route, Leaves, off_end}
 use Rattle.heal.specs.Cycle.{Kind, left, fits, gathered, shared, stayed, AskHeal, AskJoin, AskCut, Joined, Cuts}
@@ -173,15 +174,9 @@ module _ {k : Kind} {cap tag hid : ℕ} {words : List Item → List ℕ} {items 
     hi_of m sp = rw (← (same_count j.heal.spelt sp)) mate.few
 
     -- storing the neighbour's words, and both
-    module _ (w v : List ℕ) (ew : w ≡ block ws t (get_or c.nodes level 0)) (ev : v ≡ block ws t node) (b : Balanced) (eb0 : b ≡ balance_of words cap (both w v key)) where
+    module _ (w v : List ℕ) (ew : w ≡ block ws t (get_or c.nodes level 0)) (ev : v ≡ block ws t node) where
       abbrev us : List Item
       us = both w v key
-
-      eb : b ≡ balance_of k.words k.cap us
-      eb = eb0 ∙ rw (laws.same_words, laws.same_cap)
-
-      flag : b.all ≡ leb (length us) k.cap
-      flag = ap (λ (x : Balanced). x.all) eb ∙ balance_flag k.words k.cap us
 
       fits-of : (m : Mem) (x : Item) → Spelt ws t c m → right_sibling m.s.st m.s.ns m.s.ps level ≡ Some x → leb (length us) k.cap ≡ fits k m.s level x
       fits-of m x sp e =
@@ -189,87 +184,88 @@ module _ {k : Kind} {cap tag hid : ℕ} {words : List Item → List ℕ} {items 
           subst (λ (x : Item). leb (length us) k.cap ≡ fits k m.s level x) q
           (ap (λ (n : ℕ). leb n k.cap) (laws.size w v key ∙ rw (ew ∙ here_of j.heal m sp, ev ∙ mate-of m sp)))
 
-      full : b.all ≡ true → b.right ≡ k.ops.gather w v key
-      full h = ap (λ (x : Balanced). x.right) (eb ∙ balance_fits k.words k.cap us (borrow.Author.Tests.leb-true _ _ (sym flag ∙ h))) ∙ sym (laws.gather w v key)
-
-      module _ (h : b.all ≡ false) where
-        parts : b ≡ record { all = false; left = k.words (take (keep us) us); right = k.words (drop (keep us) us); key = front (drop (keep us) us) }
-        parts = eb ∙ balance_over k.words k.cap us (borrow.Author.Tests.leb-false _ _ (sym flag ∙ h))
-
-        half-left : b.left ≡ k.ops.left w v key
-        half-left = ap (λ (x : Balanced). x.left) parts ∙ sym (laws.left w v key)
-
-        half-right : b.right ≡ k.ops.right w v key
-        half-right = ap (λ (x : Balanced). x.right) parts ∙ sym (laws.right w v key)
-
-        half-key : b.key ≡ k.ops.mid w v key
-        half-key = ap (λ (x : Balanced). x.key) parts ∙ sym (laws.mid w v key)
-
-      right-length : length b.right ≡ 16
-      right-length = elim (test b.all) [
-        | is h ↦ ap length (full h ∙ laws.gather w v key) ∙ laws.sixteen us
-        | isnt h ↦ ap length (half-right h ∙ laws.right w v key) ∙ laws.sixteen (drop (keep us) us)
-      ]
-
       -- all to the right
-      module _ (vs : List ℕ) (e1 : vs ≡ with_block ws t node b.right) where
-        stored-right : (m : Mem) → Spelt ws t c m → Spelt vs t c (moved m (stored m.s (put m.s.st node b.right)))
-        stored-right m sp = rw e1 (spelt_store sp node mate.some (hi_of m sp) b.right right-length)
+      module _ (all : List ℕ) (ea0 : Merged all ≡ balance_of words cap us) where
+        ea : Merged all ≡ balance_of k.words k.cap us
+        ea = ea0 ∙ rw (laws.same_words, laws.same_cap)
 
-        pub way_gathered : Route vs t c level
-        way_gathered =
-            heal_way_put k law j.heal (put j.heal.mem.s.st node b.right)
-            (HealMem.put_keeps j.heal.mem.s.st node b.right (nums j.heal.ready.row) mate.inside) (stored-right j.heal.mem j.heal.spelt)
+        full : all ≡ k.ops.gather w v key
+        full = (is_merged k.words k.cap us ea).1 ∙ sym (laws.gather w v key)
 
-        pub joined_all : {us' : List ℕ} → b.all ≡ true → Leaves (λ s. stored s (hand_key s.st s.ns s.ps level)) vs us' t c c → Joined k ws us' t c level true
-        joined_all {us'} h f = record {
-          all_is = λ m x sp e. sym h ∙ flag ∙ fits-of m x sp e;
-          gather_all = λ m x sp e q.
-              let i : ◌≡◌ {A = Item} (key, node) x = cc (j.finds.run m sp, e) in
-              let g : b.right ≡ k.ops.gather (m.s.st (m.s.ns level)) (m.s.st node) key = full h ∙ rw (ew ∙ here_of j.heal m sp, ev ∙ mate-of m sp) in
-              subst (λ (x : Item). Spelt us' t c (moved m (gathered k m.s level x))) i
-              (subst (λ (w : List ℕ). Spelt us' t c (moved m (stored m.s (hand_key (put m.s.st node w) m.s.ns m.s.ps level)))) g
-              (f.run (moved m (stored m.s (put m.s.st node b.right))) (stored-right m sp)));
-          share_some = λ m x sp e q. absurd (true≢false q);
-        }
+        module _ (vs : List ℕ) (e1 : vs ≡ with_block ws t node all) where
+          stored-right : (m : Mem) → Spelt ws t c m → Spelt vs t c (moved m (stored m.s (put m.s.st node all)))
+          stored-right m sp = rw e1 (spelt_store sp node mate.some (hi_of m sp) all (ap length (full ∙ laws.gather w v key) ∙ laws.sixteen us))
+
+          pub way_gathered : Route vs t c level
+          way_gathered =
+              heal_way_put k law j.heal (put j.heal.mem.s.st node all)
+              (HealMem.put_keeps j.heal.mem.s.st node all (nums j.heal.ready.row) mate.inside) (stored-right j.heal.mem j.heal.spelt)
+
+          pub joined_all : {us' : List ℕ} → Leaves (λ s. stored s (hand_key s.st s.ns s.ps level)) vs us' t c c → Joined k ws us' t c level true
+          joined_all {us'} f = record {
+            all_is = λ m x sp e. sym (is_merged k.words k.cap us ea).0 ∙ fits-of m x sp e;
+            gather_all = λ m x sp e q.
+                let i : ◌≡◌ {A = Item} (key, node) x = cc (j.finds.run m sp, e) in
+                let g : all ≡ k.ops.gather (m.s.st (m.s.ns level)) (m.s.st node) key = full ∙ rw (ew ∙ here_of j.heal m sp, ev ∙ mate-of m sp) in
+                subst (λ (x : Item). Spelt us' t c (moved m (gathered k m.s level x))) i
+                (subst (λ (w : List ℕ). Spelt us' t c (moved m (stored m.s (hand_key (put m.s.st node w) m.s.ns m.s.ps level)))) g
+                (f.run (moved m (stored m.s (put m.s.st node all))) (stored-right m sp)));
+            share_some = λ m x sp e q. absurd (true≢false q);
+          }
 
       -- they share
-      module _ (h : b.all ≡ false) (vs us' : List ℕ) (e1 : vs ≡ with_block ws t (get_or c.nodes level 0) b.left) (e2 : us' ≡ with_block vs t node b.right) where
-        left-length : length b.left ≡ 16
-        left-length = ap length (half-left h ∙ laws.left w v key) ∙ laws.sixteen (take (keep us) us)
+      module _ (b : SplitOff) (eb0 : Shared b ≡ balance_of words cap us) where
+        eb : Shared b ≡ balance_of k.words k.cap us
+        eb = eb0 ∙ rw (laws.same_words, laws.same_cap)
 
-        stored-left : (m : Mem) → Spelt ws t c m → Spelt vs t c (moved m (stored m.s (put m.s.st (m.s.ns level) b.left)))
-        stored-left m sp =
-            let n = sp.nodes level j.heal.deep in
-            subst (λ (n : ℕ). Spelt vs t c (moved m (stored m.s (put m.s.st n b.left)))) n
-            (rw e1 (spelt_store sp (get_or c.nodes level 0) (rw (name j.heal) (here j.heal).some) (rw (name j.heal, ← (same_count j.heal.spelt sp)) (here j.heal).few) b.left left-length))
+        parts : b ≡ split_of k.words (keep us) us
+        parts = (is_shared k.words k.cap us eb).1
 
-        stored-both : (m : Mem) → Spelt ws t c m → Spelt us' t c (moved m (stored m.s (put (put m.s.st (m.s.ns level) b.left) node b.right)))
-        stored-both m sp = rw e2 (spelt_store (stored-left m sp) node mate.some (hi_of m sp) b.right right-length)
+        half-left : b.left ≡ k.ops.left w v key
+        half-left = ap (λ (x : SplitOff). x.left) parts ∙ sym (laws.left w v key)
 
-        pub left_placed : Placed vs t node
-        left_placed = spelt_placed (stored-left j.heal.mem j.heal.spelt) node mate.some mate.few
+        half-right : b.right ≡ k.ops.right w v key
+        half-right = ap (λ (x : SplitOff). x.right) parts ∙ sym (laws.right w v key)
 
-        pub way_shared : Route us' t c level
-        way_shared =
-            heal_way_put k law j.heal (put (put j.heal.mem.s.st (j.heal.mem.s.ns level) b.left) node b.right)
-            (λ x z. HealMem.put_keeps (put j.heal.mem.s.st (j.heal.mem.s.ns level) b.left) node b.right (nums j.heal.ready.row) mate.inside x z ∙
-            HealMem.put_keeps j.heal.mem.s.st (j.heal.mem.s.ns level) b.left (nums j.heal.ready.row) (here j.heal).inside x z)
-            (stored-both j.heal.mem j.heal.spelt)
+        half-key : b.key ≡ k.ops.mid w v key
+        half-key = ap (λ (x : SplitOff). x.key) parts ∙ sym (laws.mid w v key)
 
-        pub joined_some : {xs : List ℕ} → Leaves (λ s. stored s (right_set s.st s.ns s.ps level b.key)) us' xs t c c → Joined k ws xs t c level false
-        joined_some {xs} f = record {
-          all_is = λ m x sp e. sym h ∙ flag ∙ fits-of m x sp e;
-          gather_all = λ m x sp e q. absurd (true≢false (sym q));
-          share_some = λ m x sp e q.
-              let i : ◌≡◌ {A = Item} (key, node) x = cc (j.finds.run m sp, e) in
-              let hw : w ≡ m.s.st (m.s.ns level) = ew ∙ here_of j.heal m sp in
-              let hv : v ≡ m.s.st node = ev ∙ mate-of m sp in
-              let g1 : b.left ≡ k.ops.left (m.s.st (m.s.ns level)) (m.s.st node) key = half-left h ∙ rw (hw, hv) in
-              let g2 : b.right ≡ k.ops.right (m.s.st (m.s.ns level)) (m.s.st node) key = half-right h ∙ rw (hw, hv) in
-              let g3 : b.key ≡ k.ops.mid (m.s.st (m.s.ns level)) (m.s.st node) key = half-key h ∙ rw (hw, hv) in
-              subst (λ (x : Item). Spelt xs t c (moved m (shared k m.s level x))) i
-              (subst (λ (y : (List ℕ × List ℕ) × ℕ). Spelt xs t c (moved m (stored m.s (right_set (put (put m.s.st (m.s.ns level) y.0.0) node y.0.1) m.s.ns m.s.ps level y.1))))
-              (λ i. ((g1 i, g2 i), g3 i))
-              (f.run (moved m (stored m.s (put (put m.s.st (m.s.ns level) b.left) node b.right))) (stored-both m sp)));
-        }
+        module _ (vs us' : List ℕ) (e1 : vs ≡ with_block ws t (get_or c.nodes level 0) b.left) (e2 : us' ≡ with_block vs t node b.right) where
+          left-length : length b.left ≡ 16
+          left-length = ap length (half-left ∙ laws.left w v key) ∙ laws.sixteen (take (keep us) us)
+
+          stored-left : (m : Mem) → Spelt ws t c m → Spelt vs t c (moved m (stored m.s (put m.s.st (m.s.ns level) b.left)))
+          stored-left m sp =
+              let n = sp.nodes level j.heal.deep in
+              subst (λ (n : ℕ). Spelt vs t c (moved m (stored m.s (put m.s.st n b.left)))) n
+              (rw e1 (spelt_store sp (get_or c.nodes level 0) (rw (name j.heal) (here j.heal).some) (rw (name j.heal, ← (same_count j.heal.spelt sp)) (here j.heal).few) b.left left-length))
+
+          stored-both : (m : Mem) → Spelt ws t c m → Spelt us' t c (moved m (stored m.s (put (put m.s.st (m.s.ns level) b.left) node b.right)))
+          stored-both m sp = rw e2 (spelt_store (stored-left m sp) node mate.some (hi_of m sp) b.right (ap length (half-right ∙ laws.right w v key) ∙ laws.sixteen (drop (keep us) us)))
+
+          pub left_placed : Placed vs t node
+          left_placed = spelt_placed (stored-left j.heal.mem j.heal.spelt) node mate.some mate.few
+
+          pub way_shared : Route us' t c level
+          way_shared =
+              heal_way_put k law j.heal (put (put j.heal.mem.s.st (j.heal.mem.s.ns level) b.left) node b.right)
+              (λ x z. HealMem.put_keeps (put j.heal.mem.s.st (j.heal.mem.s.ns level) b.left) node b.right (nums j.heal.ready.row) mate.inside x z ∙
+              HealMem.put_keeps j.heal.mem.s.st (j.heal.mem.s.ns level) b.left (nums j.heal.ready.row) (here j.heal).inside x z)
+              (stored-both j.heal.mem j.heal.spelt)
+
+          pub joined_some : {xs : List ℕ} → Leaves (λ s. stored s (right_set s.st s.ns s.ps level b.key)) us' xs t c c → Joined k ws xs t c level false
+          joined_some {xs} f = record {
+            all_is = λ m x sp e. sym (is_shared k.words k.cap us eb).0 ∙ fits-of m x sp e;
+            gather_all = λ m x sp e q. absurd (true≢false (sym q));
+            share_some = λ m x sp e q.
+                let i : ◌≡◌ {A = Item} (key, node) x = cc (j.finds.run m sp, e) in
+                let hw : w ≡ m.s.st (m.s.ns level) = ew ∙ here_of j.heal m sp in
+                let hv : v ≡ m.s.st node = ev ∙ mate-of m sp in
+                let g1 : b.left ≡ k.ops.left (m.s.st (m.s.ns level)) (m.s.st node) key = half-left ∙ rw (hw, hv) in
+                let g2 : b.right ≡ k.ops.right (m.s.st (m.s.ns level)) (m.s.st node) key = half-right ∙ rw (hw, hv) in
+                let g3 : b.key ≡ k.ops.mid (m.s.st (m.s.ns level)) (m.s.st node) key = half-key ∙ rw (hw, hv) in
+                subst (λ (x : Item). Spelt xs t c (moved m (shared k m.s level x))) i
+                (subst (λ (y : (List ℕ × List ℕ) × ℕ). Spelt xs t c (moved m (stored m.s (right_set (put (put m.s.st (m.s.ns level) y.0.0) node y.0.1) m.s.ns m.s.ps level y.1))))
+                (λ i. ((g1 i, g2 i), g3 i))
+                (f.run (moved m (stored m.s (put (put m.s.st (m.s.ns level) b.left) node b.right))) (stored-both m sp)));
+          }

@@ -12,7 +12,7 @@ ghost use Rattle.heal.specs.Kinds.{HealLaws};
 ghost use Rattle.heal.specs.KindLaws.{leaf_heals, inner_heals};
 
 use forest::Cursor;
-use node::{InnerNode, Kind, LeafNode, Removed};
+use node::{Balanced, InnerNode, Kind, LeafNode, Removed};
 
 // A kind of node, as healing sees it.
 trait Heals: Kind {
@@ -44,8 +44,7 @@ fn cut<K: Heals>(ws: &mut [u32], t: usize, c: Cursor, level: usize) -> Removed
     let p = c.places[level] as usize;
     let w = pool::load(ws, t, n);
     let cut = node::remove::<K>(w, p);
-    let words = cut.words;
-    pool::store(ws, t, n, words);
+    pool::store(ws, t, n, cut.words);
     cut.status
 }
 
@@ -71,18 +70,19 @@ fn join<K: Heals>(ws: &mut [u32], t: usize, c: Cursor, level: usize, key: u32, n
     let n = c.nodes[level];
     let w = pool::load(ws, t, n);
     let v = pool::load(ws, t, node);
-    let b = node::balance::<K>(w, v, key);
-    let right = b.right;
-    if b.all {
-        pool::store(ws, t, node, right);
-        crit::hand_crit_key(ws, t, c, level);
-        return true;
+    match node::balance::<K>(w, v, key) {
+        Balanced::Merged(all) => {
+            pool::store(ws, t, node, all);
+            crit::hand_crit_key(ws, t, c, level);
+            true
+        }
+        Balanced::Shared(halves) => {
+            pool::store(ws, t, n, halves.left);
+            pool::store(ws, t, node, halves.right);
+            crit::update_right_crit_key(ws, t, c, level, halves.key);
+            false
+        }
     }
-    let left = b.left;
-    pool::store(ws, t, n, left);
-    pool::store(ws, t, node, right);
-    crit::update_right_crit_key(ws, t, c, level, b.key);
-    false
 }
 
 // The node at a level has underflowed: it balances with its right sibling; None if it is empty then.

@@ -1,10 +1,10 @@
 -- PROOFS. The operations on the words of a node with items xs: their words are those of the step on xs. For the callers
 use mathlib.Core.Path.{◌≡◌, refl, sym, ap, subst⁻¹, ◌∙◌}
 use mathlib.Core.List.{List, [], ◌∷◌, ◌++◌}
-use mathlib.Core.Bool.{Bool, true, false, cond}
+use mathlib.Core.Bool.{true, false}
 use Prim.Native.Nat.{ℕ, suc, ◌+◌, ◌-◌, ◌/◌, ◌≤◌, ◌<◌}
 use native.Mathlib.Omega.{arith}
-use lib.ListN.{length, take, drop, get_or, length-append}
+use lib.ListN.{length, get_or, length-append}
 use lib.Dec.{leb}
 use borrow.Author.Tests.{le-leb, lt-leb, leb-true, leb-false}
 use Rattle.forest.specs.Lists.{insert_at, remove_at, pad}
@@ -13,9 +13,10 @@ use Rattle.forest.specs.Rows.{front}
 use Rattle.forest.specs.Pools.{leaf_words, inner_words}
 use Rattle.forest.proofs.ListLaws.{is, isnt, test, length-insert_at, length-remove_at}
 use Rattle.node.specs.Nodes.{leaf_pairs, inner_items, Leaf, Inner, leaf_cut, inner_cut, split_of, keep, balance_of, rekey_at}
-use Rattle.node.specs.declared.Balanced.{Balanced}
+use Rattle.node.specs.declared.SplitOff.{SplitOff}
+use Rattle.node.specs.declared.Balanced.TheVariants.{Merged, Shared}
 use Rattle.node.proofs.Words.{leaf_is, inner_is, length_pairs, length-items, leaf_pairs_lem, inner_items_lem, inner_first, take-first, drop-first, cut_first, insert-first, rekey_back, rekey_at_left, length-rekey_at}
-use Rattle.node.proofs.Steps.{cut_none, cut_some, split_eq, balance_eq}
+use Rattle.node.proofs.Steps.{cut_none, cut_some, split_eq}
 
 -- Insert
 
@@ -60,21 +61,26 @@ inner_cut_last xs o h = sym (cut_none 15 inner_words inner_items (inner_words xs
 -- Balance
 
 module _ (words : List Item → List ℕ) (c : ℕ) (us : List Item) where
-  pub balance_flag : (balance_of words c us).all ≡ leb (length us) c
-  unfolding balance_of
-  balance_flag = flag (leb (length us) c) _ _ refl refl
-    where
-      flag : (b : Bool) (x y : Balanced) → x.all ≡ true → y.all ≡ false → (cond {A = Balanced} b x y).all ≡ b
-      flag true x y p q = p
-      flag false x y p q = q
-
-  pub balance_fits : length us ≤ c → balance_of words c us ≡ record { all = true; left = pad 16 []; right = words us; key = 0 }
+  pub balance_fits : length us ≤ c → balance_of words c us ≡ Merged (words us)
   unfolding balance_of
   balance_fits h = simp (le-leb (length us) c h)
 
-  pub balance_over : c < length us → balance_of words c us ≡ record { all = false; left = words (take (keep us) us); right = words (drop (keep us) us); key = front (drop (keep us) us) }
+  pub balance_over : c < length us → balance_of words c us ≡ Shared (split_of words (keep us) us)
   unfolding balance_of
   balance_over h = simp (lt-leb (length us) c h)
+
+  -- all is in the right one only if it fits, and they share only if it does not
+  pub is_merged : {w : List ℕ} → Merged w ≡ balance_of words c us → (leb (length us) c ≡ true) × (w ≡ words us)
+  is_merged {w} e = elim (test (leb (length us) c)) [
+    | is f ↦ (f, let g = e ∙ balance_fits (leb-true _ _ f) in cc)
+    | isnt f ↦ absurd (let g = e ∙ balance_over (leb-false _ _ f) in cc)
+  ]
+
+  pub is_shared : {s : SplitOff} → Shared s ≡ balance_of words c us → (leb (length us) c ≡ false) × (s ≡ split_of words (keep us) us)
+  is_shared {s} e = elim (test (leb (length us) c)) [
+    | is f ↦ absurd (let g = e ∙ balance_fits (leb-true _ _ f) in cc)
+    | isnt f ↦ (f, let g = e ∙ balance_over (leb-false _ _ f) in cc)
+  ]
 
 -- the items of two leaves, and of two inner nodes with the right one's first key put down
 pub leaf_both : (xs ys : List Item) → length xs ≤ 7 → length ys ≤ 7 → leaf_pairs (leaf_words xs) ++ leaf_pairs (leaf_words ys) ≡ xs ++ ys
@@ -92,16 +98,13 @@ balance_first : (k c : ℕ) (us : List Item) → 1 ≤ length us → balance_of 
 balance_first k c us h = elim (test (leb (length us) c)) [
   | is e ↦ (
       let l : length us ≤ c = leb-true _ _ e in
-      balance_fits inner_words c (rekey_at 0 k us) (rw same l)
-      ∙ ap (λ (w : List ℕ). record { all = true; left = pad 16 []; right = w; key = 0 }) (inner_first k us)
-      ∙ sym (balance_fits inner_words c us l))
+      balance_fits inner_words c (rekey_at 0 k us) (rw same l) ∙ ap Merged (inner_first k us) ∙ sym (balance_fits inner_words c us l))
   | isnt e ↦ (
       let l : c < length us = leb-false _ _ e in
       let j : keep (rekey_at 0 k us) ≡ keep us = ap (λ (n : ℕ). n - n / 2) same in
-      let d : drop (keep us) (rekey_at 0 k us) ≡ drop (keep us) us = drop-first k (keep us) us (omega arith) in
       balance_over inner_words c (rekey_at 0 k us) (rw same l)
-      ∙ ap (λ (n : ℕ). record { all = false; left = inner_words (take n (rekey_at 0 k us)); right = inner_words (drop n (rekey_at 0 k us)); key = front (drop n (rekey_at 0 k us)) }) j
-      ∙ balance_eq (take-first k (keep us) us) (ap inner_words d) (ap front d)
+      ∙ ap (λ (n : ℕ). Shared (split_of inner_words n (rekey_at 0 k us))) j
+      ∙ ap Shared (split_first k (keep us) us (omega arith))
       ∙ sym (balance_over inner_words c us l))
 ]
   where
@@ -114,13 +117,13 @@ inner_balance xs ys a b c d = ap (balance_of inner_words 8) (inner_both xs ys a 
 
 -- Two leaves that fit in one make a leaf; what an insert makes of an inner node is one with one child more; and one that lost a child, not its last, is one
 
-pub join_leaf : (w v r : List ℕ) → r ≡ (balance_of leaf_words 7 (leaf_pairs w ++ leaf_pairs v)).right → Leaf w → Leaf v → get_or w 0 0 + get_or v 0 0 ≤ 71 → Leaf r × (get_or r 0 0 + 32 ≡ get_or w 0 0 + get_or v 0 0)
+pub join_leaf : (w v r : List ℕ) → Merged r ≡ balance_of leaf_words 7 (leaf_pairs w ++ leaf_pairs v) → Leaf w → Leaf v → get_or w 0 0 + get_or v 0 0 ≤ 71 → Leaf r × (get_or r 0 0 + 32 ≡ get_or w 0 0 + get_or v 0 0)
 join_leaf w v r e leaf other h =
     let us : List Item = leaf_pairs w ++ leaf_pairs v in
     let n : length us ≡ get_or w 0 0 - 32 + (get_or v 0 0 - 32) = length-append (leaf_pairs w) (leaf_pairs v) ∙ rw (length_pairs w, length_pairs v) in
     let some : 33 ≤ get_or w 0 0 = leaf.some in
     let more : 33 ≤ get_or v 0 0 = other.some in
-    let all : r ≡ leaf_words us = e ∙ ap (λ (b : Balanced). b.right) (balance_fits leaf_words 7 us (omega arith)) in
+    let all : r ≡ leaf_words us = (is_merged leaf_words 7 us e).1 in
     subst⁻¹ (λ (u : List ℕ). Leaf u × (get_or u 0 0 + 32 ≡ get_or w 0 0 + get_or v 0 0)) all (leaf_is us (omega arith) (omega arith), omega arith)
 
 pub insert_inner : (w r : List ℕ) (i : ℕ) (x : Item) → r ≡ inner_words (insert_at i x (inner_items w)) → Inner w → get_or w 0 0 < 23 → Inner r × (get_or r 0 0 ≡ suc (get_or w 0 0))

@@ -2,7 +2,6 @@
 use mathlib.Core.Path.{◌≡◌, ap, ◌∙◌}
 use mathlib.Core.Logic.{◌≢◌}
 use mathlib.Core.List.{List, []}
-use mathlib.Core.Bool.{true, false}
 use Prim.Native.Nat.{ℕ, suc, ◌+◌, ◌-◌, ◌*◌, ◌/◌, ◌≤◌, ◌<◌}
 use native.Mathlib.Numerals.{add-one}
 use native.Mathlib.Omega.{arith}
@@ -11,13 +10,13 @@ use lib.Seq.{length-take-le}
 use borrow.Author.Tests.{le-leb, lt-leb, lt-ltb, le-ltb, eq-eqb, ne_eqb}
 use Rattle.forest.specs.Lists.{remove_at, pad}
 use Rattle.forest.specs.Pairs.{Item}
-use Rattle.forest.specs.Rows.{front, keeps}
-use Rattle.node.specs.Nodes.{cut_of, status_of, split_of, keep, balance_of, items_of, half_items, packed}
+use Rattle.forest.specs.Rows.{keeps}
+use Rattle.node.specs.Nodes.{cut_of, status_of, split_of, keep, balance_of, items_of, half_items, packed, packed_halves}
 use Rattle.node.specs.Kinds.{KindLaws}
 use Rattle.node.specs.declared.items.Items.{Items}
 use Rattle.node.specs.declared.items.Halves.{Halves}
 use Rattle.node.specs.declared.SplitOff.{SplitOff}
-use Rattle.node.specs.declared.Balanced.{Balanced}
+use Rattle.node.specs.declared.Balanced.TheVariants.{Merged, Shared}
 use Rattle.node.specs.declared.Removed.TheVariants.{Healthy, Rightmost, Underflow, Empty}
 use Rattle.node.proofs.ItemLaws.{halves_of, half_items_lem}
 use Rattle.node.proofs.KindLaws.{packs}
@@ -60,38 +59,23 @@ module _ (t : ℕ) (words : List Item → List ℕ) (items : List ℕ → List I
 pub split_eq : {a b d e : List ℕ} {k m : ℕ} → a ≡ d → b ≡ e → k ≡ m → ◌≡◌ {A = SplitOff} (record { left = a; right = b; key = k }) (record { left = d; right = e; key = m })
 split_eq p q r = cc
 
-pub balance_eq : {a b d e : List ℕ} {k m : ℕ} → a ≡ d → b ≡ e → k ≡ m →
-    ◌≡◌ {A = Balanced} (record { all = false; left = a; right = b; key = k }) (record { all = false; left = d; right = e; key = m })
-balance_eq p q r = cc
-
 -- items us, packed as a kind of node
 module _ {c a i : ℕ} {words : List Item → List ℕ} {items : List ℕ → List Item} {Is : List ℕ → Type 0} (laws : KindLaws c a i words items Is) (us : List Item) (s : Items) (held : s ≡ items_of us) where
-  -- both halves
-  halves_packed : (l : ℕ) (h : Halves) (left right : List ℕ) → h ≡ half_items s l → length us ≤ 16 → 1 ≤ l → l < length us → left ≡ packed a i h.left → right ≡ packed a i h.right →
-      (left ≡ words (take l us)) × (right ≡ words (drop l us)) × (h.key ≡ front (drop l us))
-  halves_packed l h left right e few some more p q =
-      let d : h ≡ halves_of us l = e ∙ half_items_lem s l us held few more in (
-        p ∙ packs laws h.left (take l us) (ap (λ (o : Halves). o.left) d) (rw (length-take-le l us (omega arith)) some),
-        q ∙ packs laws h.right (drop l us) (ap (λ (o : Halves). o.right) d) (simp length-drop (omega arith)),
-        ap (λ (o : Halves). o.key) d,
-      )
+  pub split_done : (l m : ℕ) → l ≡ m → length us ≤ 16 → 1 ≤ l → l < length us → packed_halves a i s l ≡ split_of words m us
+  split_done l m e few some more =
+      let d : half_items s l ≡ halves_of us l = half_items_lem s l us held few more in
+      split_eq
+      (packs laws (half_items s l).left (take l us) (ap (λ (o : Halves). o.left) d) (rw (length-take-le l us (omega arith)) some))
+      (packs laws (half_items s l).right (drop l us) (ap (λ (o : Halves). o.right) d) (simp length-drop (omega arith)))
+      (ap (λ (o : Halves). o.key) d)
+      ∙ ap (λ (j : ℕ). split_of words j us) e
 
-  pub split_done : (l m : ℕ) (h : Halves) (left right : List ℕ) → l ≡ m → h ≡ half_items s l → length us ≤ 16 → 1 ≤ l → l < length us → left ≡ packed a i h.left → right ≡ packed a i h.right →
-      record { left = left; right = right; key = h.key } ≡ split_of words m us
-  split_done l m h left right e d few some more p q =
-      let r = halves_packed l h left right d few some more p q in
-      split_eq r.0 r.1 r.2 ∙ ap (λ (j : ℕ). split_of words j us) e
-
-  pub balance_all : (w : List ℕ) → 1 ≤ length us → length us ≤ c → w ≡ packed a i s → record { all = true; left = pad 16 []; right = w; key = 0 } ≡ balance_of words c us
+  pub balance_all : 1 ≤ length us → length us ≤ c → Merged (packed a i s) ≡ balance_of words c us
   unfolding balance_of
-  balance_all w some h p =
-      simp (le-leb (length us) c h)
-      (ap (λ (r : List ℕ). record { all = true; left = pad 16 []; right = r; key = 0 }) (p ∙ packs laws s us held some))
+  balance_all some h = simp (le-leb (length us) c h) (ap Merged (packs laws s us held some))
 
-  pub balance_share : (h : Halves) (left right : List ℕ) → h ≡ half_items s (s.count - s.count / 2) → length us ≤ 16 → 1 ≤ c → c < length us → left ≡ packed a i h.left → right ≡ packed a i h.right →
-      record { all = false; left = left; right = right; key = h.key } ≡ balance_of words c us
+  pub balance_share : length us ≤ 16 → 1 ≤ c → c < length us → Shared (packed_halves a i s (s.count - s.count / 2)) ≡ balance_of words c us
   unfolding balance_of
-  balance_share h left right d few some more p q =
+  balance_share few d more =
       let e : s.count - s.count / 2 ≡ keep us = ap (λ (o : Items). o.count - o.count / 2) held in
-      let r = halves_packed (keep us) h left right (d ∙ ap (half_items s) e) few (omega arith) (omega arith) p q in
-      simp (lt-leb (length us) c more) (balance_eq r.0 r.1 r.2)
+      simp (lt-leb (length us) c more) (ap Shared (split_done (s.count - s.count / 2) (keep us) e few (rw e (omega arith)) (rw e (omega arith))))

@@ -1,5 +1,5 @@
 -- DEFINITIONS. One node: its sixteen words read as items, and what insert, cut, remove and balance make of them, over the kind and the capacity c
-use Rattle.std.specs.Prelude.{◌≡◌, List, [], ◌∷◌, map, true, false, cond, ℕ, zero, suc, ◌+◌, ◌-◌, ◌*◌, ◌/◌, ◌≤◌, length, take, drop, get_or, ltb, leb, eqb}
+use Rattle.std.specs.Prelude.{◌≡◌, List, [], ◌∷◌, map, cond, ℕ, zero, suc, ◌+◌, ◌-◌, ◌*◌, ◌/◌, ◌≤◌, length, take, drop, get_or, ltb, leb, eqb}
 use Rattle.std.proofs.Math.Seq.{paste}
 use Rattle.forest.specs.Lists.{remove_at, pad}
 use Rattle.forest.specs.Pairs.{Item}
@@ -10,6 +10,7 @@ use Rattle.node.specs.declared.items.Items.{Items}
 use Rattle.node.specs.declared.items.Halves.{Halves}
 use Rattle.node.specs.declared.SplitOff.{SplitOff}
 use Rattle.node.specs.declared.Balanced.{Balanced}
+use Rattle.node.specs.declared.Balanced.TheVariants.{Merged, Shared}
 use Rattle.node.specs.declared.Removed.{Removed}
 use Rattle.node.specs.declared.Removed.TheVariants.{Healthy, Rightmost, Underflow, Empty}
 
@@ -86,10 +87,7 @@ keep us = length us - length us / 2
 
 -- the items of two nodes: all on the right if they fit in one, or else each gets half
 unfoldable pub balance_of : (List Item → List ℕ) → ℕ → List Item → Balanced
-balance_of words c us =
-    cond (leb (length us) c)
-    (record { all = true; left = pad 16 []; right = words us; key = 0 })
-    (record { all = false; left = words (take (keep us) us); right = words (drop (keep us) us); key = front (drop (keep us) us) })
+balance_of words c us = cond (leb (length us) c) (Merged (words us)) (Shared (split_of words (keep us) us))
 
 -- items as a count, their keys and their links
 abbrev pub items_of : List Item → Items
@@ -126,3 +124,7 @@ packed a i s = paste (paste ((a + s.count) ∷ pad 15 []) 1 (drop i s.keys) 7) 8
 -- a node's items: the number without a, seven keys to place i on with k in place 0 before, eight links
 abbrev pub unpacked : ℕ → ℕ → ℕ → List ℕ → Items
 unpacked a i k w = record { count = get_or w 0 0 - a; keys = paste (k ∷ pad 15 []) i (drop 1 w) 7; links = paste (pad 16 []) 0 (drop 8 w) 8 }
+
+-- the first l in a node and the others in another, and the first key of these
+abbrev pub packed_halves : ℕ → ℕ → Items → ℕ → SplitOff
+packed_halves a i s l = record { left = packed a i (half_items s l).left; right = packed a i (half_items s l).right; key = (half_items s l).key }

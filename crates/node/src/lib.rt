@@ -6,7 +6,7 @@ ghost use Rattle.forest.specs.Lists.{insert_at};
 ghost use Rattle.forest.specs.Pairs.{Item};
 ghost use Rattle.forest.specs.Rows.{keeps};
 ghost use Rattle.forest.specs.Pools.{leaf_words, inner_words};
-ghost use Rattle.node.specs.Nodes.{Leaf, Inner, leaf_pairs, inner_items, keyed, status_of, cut_of, split_of, balance_of, items_of, packed};
+ghost use Rattle.node.specs.Nodes.{Leaf, Inner, leaf_pairs, inner_items, keyed, status_of, cut_of, split_of, balance_of, items_of, packed, packed_halves};
 ghost use Rattle.node.specs.Kinds.{KindLaws, leaf_laws, inner_laws};
 
 pub mod items;
@@ -41,13 +41,11 @@ pub struct Cut {
     pub status: Removed,
 }
 
-// Two nodes after balancing: all is on the right, or each has half and `key` is the right one's first.
+// Two nodes after balancing: all is in the right one, or they share.
 #[derive(Clone, Copy)]
-pub struct Balanced {
-    pub all: bool,
-    pub left: [u32; 16],
-    pub right: [u32; 16],
-    pub key: u32,
+pub enum Balanced {
+    Merged([u32; 16]),
+    Shared(SplitOff),
 }
 
 // A kind of node: leaves, which hold pairs, or inner nodes, which hold children with keys between them.
@@ -206,21 +204,26 @@ fn split_pos(len: usize, ins: usize) -> usize
     (len + 1) / 2
 }
 
+// Items cut in two after the first `l`, each half in a node.
+fn halves<K: Kind>(all: Items, l: usize) -> SplitOff
+    requires { (1 ≤ l) × (l ≤ K.CAPACITY) × (l < all.count) × (all.count ≤ l + K.CAPACITY) }
+    ensures { result ≡ packed_halves K.TAG K.HIDDEN all l }
+{
+    let parts = cut_at(all, l);
+    SplitOff {
+        left: pack::<K>(parts.left),
+        right: pack::<K>(parts.right),
+        key: parts.key,
+    }
+}
+
 // A full node cut in two, with `key` and `link` at place `at`.
 pub fn split<K: Kind>(w: [u32; 16], at: usize, key: u32, link: u32) -> SplitOff
     requires { K.Is w × (get_or w 0 0 ≡ K.TAG + K.CAPACITY) × (at ≤ K.CAPACITY) }
     ensures { result ≡ split_of K.words (keeps K.CAPACITY at) (insert_at at (key, link) (K.items w)) }
 {
     let all = insert(unpack::<K>(w, 0), at, key, link);
-    let l = split_pos(K::CAPACITY, at);
-    let parts = cut_at(all, l);
-    let left = parts.left;
-    let right = parts.right;
-    SplitOff {
-        left: pack::<K>(left),
-        right: pack::<K>(right),
-        key: parts.key,
-    }
+    halves::<K>(all, split_pos(K::CAPACITY, at))
 }
 
 // The status of a node of `capacity` that lost the entry at `removed` and has `left` left.
@@ -268,20 +271,7 @@ pub fn balance<K: Kind>(w: [u32; 16], v: [u32; 16], key: u32) -> Balanced
     let all = append(unpack::<K>(w, 0), unpack::<K>(v, key));
     let n = all.count;
     if n <= K::CAPACITY {
-        return Balanced {
-            all: true,
-            left: [0u32; 16],
-            right: pack::<K>(all),
-            key: 0,
-        };
+        return Balanced::Merged(pack::<K>(all));
     }
-    let parts = cut_at(all, n - n / 2);
-    let left = parts.left;
-    let right = parts.right;
-    Balanced {
-        all: false,
-        left: pack::<K>(left),
-        right: pack::<K>(right),
-        key: parts.key,
-    }
+    Balanced::Shared(halves::<K>(all, n - n / 2))
 }

@@ -24,5 +24,4 @@ returns g c =
     let long : length us ≡ suc g.K.Kind.CAPACITY = length-insert_at c.args.at x xs ∙ ap suc n in
     let read = c.unpack.ensures.1 ∙ ap items_of (keyed_none laws c.args.w) in
     let held = c.insert-all.ensures ∙ insert-items c.unpack.result c.args.at c.args.key c.args.link xs read (omega arith) (omega arith) in
-    split_done laws us c.insert-all.result held c.split_pos-l.result (keeps g.K.Kind.CAPACITY c.args.at) c.cut_at-parts.result c.pack.result c.pack-2.result
-    (cc) c.cut_at-parts.ensures (omega arith) (omega arith) (omega arith) c.pack.ensures c.pack-2.ensures
+    c.halves.ensures ∙ split_done laws us c.insert-all.result held c.split_pos.result (keeps g.K.Kind.CAPACITY c.args.at) (cc) (omega arith) (omega arith) (omega arith)
