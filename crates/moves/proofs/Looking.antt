@@ -12,10 +12,9 @@ use borrow.Author.Tests.{eq-eqb, eqb-true, ltb-true}
 use Rattle.forest.specs.Rows.{Row}
 use Rattle.forest.specs.Pools.{Pool, tree_of}
 use Rattle.forest.specs.Cursors.{Spot, off, on, leaves, pair_at, prev, prev_pair, path_of, cursor_at}
-use Rattle.forest.specs.Answers.{told}
+use Rattle.forest.specs.Answers.{told, nothing}
 use Rattle.forest.specs.declared.Cursor.{Cursor}
 use Rattle.forest.specs.declared.Moved.{Moved}
-use Rattle.forest.specs.declared.Reply.TheVariants as reply
 use Rattle.forest.proofs.ListLaws.{is, isnt, test, tests}
 use Rattle.path.specs.Levels.{left_branch}
 use Rattle.path.specs.Cores.{Ready, Of, At}
@@ -75,7 +74,7 @@ module _ (ws : List ℕ) (t : ℕ) (c : Cursor) (y : Ready ws t c.tree) where
   other_pair e p (on j (suc k)) o a L = refl
 
   -- prev gives none there, and the cursor stays
-  pub back_first : at_first c ≡ true → Back ws c (record { reply = reply.Nothing; cursor = c })
+  pub back_first : at_first c ≡ true → Back ws c (record { reply = nothing; cursor = c })
   back_first e = record {
     cursor = record {
       to = λ p s o a.
