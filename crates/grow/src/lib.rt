@@ -11,6 +11,7 @@ ghost use Rattle.grow.specs.Grows.{Scene, Under, Unders, Climb, Climbs, climbed,
 
 use forest::{Cursor, Hit, Refusal, Reply};
 use node::{InnerNode, LeafNode};
+use path::Tree;
 
 // Takes a node, gives it the words of `node`, and makes it the root of a tree.
 fn plant(ws: &mut [u32], t: usize, tree: u32, node: [u32; 16])
@@ -166,13 +167,13 @@ pub fn put(ws: &mut [u32], t: usize, tree: u32, key: u32, value: u32) -> Reply
     if pool::root(ws, tree) == 0 {
         return put_first(ws, t, tree, key, value);
     }
-    let foot = path::find_leaf(ws, t, tree, key);
+    let foot = Tree { words: ws, trees: t, number: tree }.find_leaf(key);
     if let Some(earlier) = replace(ws, t, foot.node, foot.place, key, value) {
         return Ok(Some(Hit::Value(earlier)));
     }
     if try_leaf_insert(ws, t, foot.node, foot.place, key, value) {
         return Ok(None);
     }
-    let c = path::find(ws, t, tree, key);
+    let c = Tree { words: ws, trees: t, number: tree }.find(key);
     add(ws, t, c, key, value)
 }

@@ -2,3 +2,4 @@ pub mod Sideways
 pub mod Neighbours
 pub mod Moving
 pub mod Looking
+pub mod Held

@@ -1,14 +1,15 @@
 // Paths from the root of a tree to a leaf, as the crate's path.rs has them: going down, and where a path branches. A cursor is taken by value and handed back.
 #![tactic(auto)]
 
-ghost use Rattle.std.specs.Prelude.{◌≡◌, ◌+◌, ◌-◌, ◌*◌, ◌≤◌, ◌<◌, [], length, take, drop, get_or};
-ghost use Rattle.forest.specs.Sizes.{most_trees, most_levels};
+ghost use Rattle.std.specs.Prelude.{◌≡◌, true, ◌+◌, ◌-◌, ◌*◌, ◌≤◌, ◌<◌, [], length, take, drop, get_or};
+ghost use Rattle.forest.specs.Sizes.{most_trees, most_levels, leaf_least};
+ghost use Rattle.sound.specs.Checks.{checked};
 ghost use Rattle.forest.specs.Lists.{pad};
 ghost use Rattle.forest.specs.Slices.{KeysRise};
 ghost use Rattle.forest.specs.Cursors.{cursor_at, first, seek};
 ghost use Rattle.path.specs.Ways.{block_at, keys_of, turn_of, land_of, descend, foot_of, Deep};
 ghost use Rattle.path.specs.Levels.{pushed, extended, cut_at, right_branch, left_branch, Safe};
-ghost use Rattle.path.specs.Cores.{Ready, Standing, Goes, Sees, LeafIn, look_in, Ends, Looks};
+ghost use Rattle.path.specs.Cores.{Goes, LeafIn, look_in, Ends, Looks};
 
 use forest::Cursor;
 
@@ -25,6 +26,17 @@ pub enum Way {
 pub struct Foot {
     pub node: u32,
     pub place: usize,
+}
+
+// A tree of a sound pool: the words, the number of trees, and which of them it is.
+#[derive(Clone, Copy)]
+pub struct Tree<'a> {
+    pub words: &'a [u32],
+    pub trees: usize,
+    pub number: u32,
+    ghost sound: { checked words.now leaf_least ≡ true },
+    ghost counted: { trees ≡ get_or words.now 0 0 },
+    ghost there: { number < trees },
 }
 
 // Cursors
@@ -142,30 +154,6 @@ pub fn down(ws: &[u32], t: usize, way: Way, c: Cursor, node: u32, left: usize) -
     out
 }
 
-// Go to a key of a tree, or where it would be put.
-pub fn find(ws: &[u32], t: usize, tree: u32, key: u32) -> Cursor
-    requires { Ready ws.now t tree }
-    ensures { Goes (seek key) ws.now tree result }
-{
-    let root = ws[1 + tree as usize];
-    if root == 0 {
-        return off_end(tree);
-    }
-    down(ws, t, Way::Key(key), off_end(tree), root, 16)
-}
-
-// Go to the first pair of a tree.
-pub fn first(ws: &[u32], t: usize, tree: u32) -> Cursor
-    requires { Ready ws.now t tree }
-    ensures { Goes first ws.now tree result }
-{
-    let root = ws[1 + tree as usize];
-    if root == 0 {
-        return off_end(tree);
-    }
-    down(ws, t, Way::First, off_end(tree), root, 16)
-}
-
 // Where a cursor stands
 
 // The deepest level above `level` with more to the right.
@@ -198,21 +186,6 @@ pub fn look_in(ws: &[u32], t: usize, n: u32, e: usize) -> Option<(u32, u32)>
     None
 }
 
-// What stands where a cursor stands.
-pub fn look_at(ws: &[u32], t: usize, c: Cursor) -> Option<(u32, u32)>
-    requires ready { Ready ws.now t c.tree }
-    requires standing { Standing ws.now c }
-    ensures { Sees ws.now c result }
-{
-    let size = c.size as usize;
-    if size == 0 {
-        return None;
-    }
-    let node = c.nodes[size - 1];
-    let entry = c.places[size - 1] as usize;
-    look_in(ws, t, node, entry)
-}
-
 // The leaf that going down from a node comes to, `left` levels at most; no cursor is made.
 fn leaf_below(ws: &[u32], t: usize, way: Way, node: u32, left: usize) -> u32
     requires deep { Deep left ws.now t node }
@@ -234,30 +207,52 @@ fn leaf_below(ws: &[u32], t: usize, way: Way, node: u32, left: usize) -> u32
     n
 }
 
-// The leaf where a key of a tree that is not empty is or would be put, and its place there; no cursor is made.
-pub fn find_leaf(ws: &[u32], t: usize, tree: u32, key: u32) -> Foot
-    requires ready { Ready ws.now t tree }
-    requires bound { 1 ≤ get_or ws.now (1 + tree) 0 }
-    ensures { Ends key ws.now tree result.node result.place }
-{
-    let root = ws[1 + tree as usize];
-    let n = leaf_below(ws, t, Way::Key(key), root, 16);
-    let b = t + 16 * (n as usize) - 14;
-    Foot {
-        node: n,
-        place: land(ws, b, Way::Key(key)),
+impl<'a> Tree<'a> {
+    // Go to a key, or where it would be put.
+    pub fn find(&self, key: u32) -> Cursor
+        ensures { Goes (seek key) self.now.words.now self.now.number result }
+    {
+        let root = self.words[1 + self.number as usize];
+        if root == 0 {
+            return off_end(self.number);
+        }
+        down(self.words, self.trees, Way::Key(key), off_end(self.number), root, 16)
     }
-}
 
-// What stands at the place of a key, as a look at the cursor that `find` makes sees it.
-pub fn look_for(ws: &[u32], t: usize, tree: u32, key: u32) -> Option<(u32, u32)>
-    requires { Ready ws.now t tree }
-    ensures { Looks key ws.now tree result }
-{
-    let root = ws[1 + tree as usize];
-    if root == 0 {
-        return None;
+    // Go to the first pair.
+    pub fn first(&self) -> Cursor
+        ensures { Goes first self.now.words.now self.now.number result }
+    {
+        let root = self.words[1 + self.number as usize];
+        if root == 0 {
+            return off_end(self.number);
+        }
+        down(self.words, self.trees, Way::First, off_end(self.number), root, 16)
     }
-    let foot = find_leaf(ws, t, tree, key);
-    look_in(ws, t, foot.node, foot.place)
+
+    // The leaf where a key of a tree that is not empty is or would be put, and its place there; no cursor is made.
+    pub fn find_leaf(&self, key: u32) -> Foot
+        requires { 1 ≤ get_or self.now.words.now (1 + self.now.number) 0 }
+        ensures { Ends key self.now.words.now self.now.number result.node result.place }
+    {
+        let root = self.words[1 + self.number as usize];
+        let n = leaf_below(self.words, self.trees, Way::Key(key), root, 16);
+        let b = self.trees + 16 * (n as usize) - 14;
+        Foot {
+            node: n,
+            place: land(self.words, b, Way::Key(key)),
+        }
+    }
+
+    // What stands at the place of a key, as a look at the cursor that `find` makes sees it.
+    pub fn look_for(&self, key: u32) -> Option<(u32, u32)>
+        ensures { Looks key self.now.words.now self.now.number result }
+    {
+        let root = self.words[1 + self.number as usize];
+        if root == 0 {
+            return None;
+        }
+        let foot = self.find_leaf(key);
+        look_in(self.words, self.trees, foot.node, foot.place)
+    }
 }

@@ -7,6 +7,7 @@ ghost use Rattle.remove.specs.Keys.{closed, LeafPair, less_words, only_leaf, Ask
 ghost use Rattle.forest.specs.Lists.{pad};
 
 use forest::Cursor;
+use path::Tree;
 
 // The root once those with one child are gone, and how many went.
 #[derive(Clone, Copy)]
@@ -133,6 +134,6 @@ pub fn remove_key(ws: &mut [u32], t: usize, tree: u32, key: u32, n: u32, at: usi
         take_out(ws, t, n, at);
         return;
     }
-    let c = path::find(ws, t, tree, key);
+    let c = Tree { words: ws, trees: t, number: tree }.find(key);
     remove(ws, t, c);
 }

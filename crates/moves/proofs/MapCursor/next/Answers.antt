@@ -1,0 +1,12 @@
+use borrow.Author.Rules.{rules}
+use Rattle.forest.specs.Cursors.{next}
+use Rattle.forest.proofs.CursorCalls.{fits_next}
+use Rattle.moves.proofs.Moving.{moved-standing}
+use Rattle.moves.proofs.Held.{cursor_ready, cursor_stands, steps_tree}
+use Rattle.moves.proofs.MapCursor.next.Goals as goal
+
+pub moved-requires : goal.moved-requires
+moved-requires c = let z = cursor_stands c.args.self (search rules) (search rules) in record {
+  tree = steps_tree next c.args.self (cursor_ready c.args.self) z _ c.next_place.ensures;
+  stands = moved-standing next fits_next c.args.self.words.now c.args.self.cursor _ c.next_place.ensures z;
+}
