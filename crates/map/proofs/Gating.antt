@@ -1,5 +1,5 @@
 -- PROOFS. Each return of the gates
-use mathlib.Core.Path.{◌≡◌, refl, sym, ap, ◌∙◌}
+use mathlib.Core.Path.{◌≡◌, refl, sym, ap, subst, ◌∙◌}
 use mathlib.Core.List.{List}
 use mathlib.Core.Bool.{Bool, true, false, true≢false}
 use mathlib.Core.Option.{Option, none, some}
@@ -19,6 +19,8 @@ use Rattle.forest.specs.Cursors.{leaves, pair_at, next, spot_of, path_in, Move, 
 use Rattle.forest.proofs.PromiseLaws.{sound_length}
 use Rattle.forest.proofs.CursorCalls.{move-refused, move-done}
 use Rattle.path.specs.Cores.{Ready, Of, Look}
+use Rattle.path.specs.declared.Tree.{Tree}
+use Rattle.path.proofs.Trees.{tree_ready}
 use Rattle.stand.specs.Runs.{Tells}
 use Rattle.map.specs.Gates.{Gates, Admits, Allows, Stood, Told, held_at}
 use Rattle.map.proofs.Promising.{of, trees_of, refused_moves, blocked-place, tree_there, free_reads, stands-standing}
@@ -33,28 +35,42 @@ module _ (ws : List ℕ) (tree t : ℕ) (s : Sound leaf_least ws) (e : t ≡ get
     shut = λ x q p o rest. let z : NoTree ≡ x = cc in rw (le-leb (length p.trees) tree (omega (arith, e, trees_of ws p o))) (ap some z);
   }
 
+-- the tree that passes
+pub gate_open : (ws : List ℕ) (tree : ℕ) (x : Tree) → x.words.now ≡ ws → x.number ≡ tree → Gates ws tree (Ok x)
+gate_open ws tree x a b = record {
+  passes = λ u q. let z : x ≡ u = cc in rw (← z) (a, b);
+  shut = λ w q. absurd (let z : ◌≡◌ {A = ℕ} 0 1 = cc in omega arith);
+}
+
+-- what is said of that tree is said of the words
+pub of_tree : {ws : List ℕ} {tree : ℕ} {x : Tree} (P : List ℕ → ℕ → Type 0) → (x.words.now ≡ ws) × (x.number ≡ tree) → P x.words.now x.number → P ws tree
+of_tree {ws} {tree} {x} P e q = subst (λ (u : List ℕ). P u tree) e.0 (subst (λ (n : ℕ). P x.words.now n) e.1 q)
+
+pub gate_ready : {ws : List ℕ} {tree : ℕ} {x : Tree} → (x.words.now ≡ ws) × (x.number ≡ tree) → Ready ws x.trees tree
+gate_ready {x = x} e = of_tree {x = x} (λ u n. Ready u x.trees n) e (tree_ready x)
+
 shut_admits : (ws : List ℕ) (c : Cursor) (y : Refusal) → ((p : Pool) → Of ws p → (v : Move) → reads v ≡ true → blocked v c p ≡ some y) → Admits ws c (Err y)
 shut_admits ws c y b = record {
   stood = λ e. absurd (true≢false (sym e));
   shut = λ x e. let q : y ≡ x = cc in rw (← q) b;
 }
 
-module _ (ws : List ℕ) (c : Cursor) (g : Result ℕ Refusal) (x : Gates ws c.tree g) where
+module _ (ws : List ℕ) (c : Cursor) (g : Result Tree Refusal) (x : Gates ws c.tree g) where
   pub admit_shut : (y : Refusal) → g ≡ Err y → Admits ws c (Err y)
   unfolding blocked
   admit_shut y e = shut_admits ws c y (λ p o v q. x.shut y e p o _)
 
-  module _ (t : ℕ) (e : g ≡ Ok t) (r : Bool) (z : Tells ws c r) where
+  module _ (t : Tree) (e : g ≡ Ok t) (r : Bool) (z : Tells ws c r) where
     pub admit_open : length c.nodes ≡ 16 → length c.places ≡ 16 → r ≡ true → Admits ws c (Ok tt)
     admit_open ln lp q =
-        let y = x.passes t e in
+        let y = gate_ready {x = t} (x.passes t e) in
         record {
           stood = λ k. record { sound = y.sound; there = rw (← y.trees) y.there; standing = stands-standing ws c r ln lp z q };
           shut = λ u k. absurd (let w : ◌≡◌ {A = ℕ} 0 1 = cc in omega arith);
         }
 
     pub admit_place : r ≡ false → Admits ws c (Err NoPlace)
-    admit_place q = shut_admits ws c NoPlace (λ p o v k. blocked-place v c p (tree_there ws t c.tree (x.passes t e) p o) k (sym (z.tells p o) ∙ q))
+    admit_place q = shut_admits ws c NoPlace (λ p o v k. blocked-place v c p (tree_there ws t.trees c.tree (gate_ready {x = t} (x.passes t e)) p o) k (sym (z.tells p o) ∙ q))
 
 -- the gate for a cursor, of words that are sound
 pub admitted_allows : (ws : List ℕ) (c : Cursor) (r : Result ⊤ Refusal) → Sound leaf_least ws → Admits ws c r → Allows ws c r

@@ -13,16 +13,17 @@ use Rattle.forest.specs.declared.Moved.{Moved}
 use Rattle.forest.specs.declared.Hit.{Hit}
 use Rattle.forest.specs.declared.Hit.TheVariants.{Value}
 use Rattle.forest.specs.Promises.{Moves}
-use Rattle.path.specs.Cores.{Ready, Of, Standing, Look}
+use Rattle.path.specs.Cores.{Of, Standing, Look}
+use Rattle.path.specs.declared.Tree.{Tree}
 
 -- the check: the words are sound; else they are not, and that is the reason
 pub record Checks (ws : List ℕ) (r : Result ⊤ Refusal) : Type 0 where
   pub sound : IsOk r → Sound leaf_least ws
   pub unsound : (x : Refusal) → r ≡ Err x → (x ≡ Unsound) × (Sound leaf_least ws → ⊥)
 
--- what passes: t is the number of trees; else the reason against every call, whatever the call asks besides
-pub record Gates (ws : List ℕ) (tree : ℕ) (r : Result ℕ Refusal) : Type 0 where
-  pub passes : (t : ℕ) → r ≡ Ok t → Ready ws t tree
+-- what passes: the tree of these words; else the reason against every call, whatever the call asks besides
+pub record Gates (ws : List ℕ) (tree : ℕ) (r : Result Tree Refusal) : Type 0 where
+  pub passes : (x : Tree) → r ≡ Ok x → (x.words.now ≡ ws) × (x.number ≡ tree)
   pub shut : (x : Refusal) → r ≡ Err x → (p : Pool) → Of ws p → (rest : Option Refusal) → gate p tree rest ≡ some x
 
 -- the words are sound, and the cursor stands in a tree that is there

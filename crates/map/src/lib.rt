@@ -10,6 +10,8 @@ ghost use Rattle.forest.specs.Promises.{Calls, Moves};
 ghost use Rattle.map.specs.Gates.{Checks, Gates, Admits, Allows, Stood, Told, turned_back, held_at};
 
 use forest::{Cursor, Hit, Moved, Refusal, Reply};
+use moves::MapCursor;
+use path::Tree;
 
 
 // That the words are a sound pool, or why a call is refused.
@@ -22,16 +24,20 @@ fn checked(ws: &[u32]) -> Result<(), Refusal>
     Ok(())
 }
 
-// The number of trees, or that there is no such tree.
-fn gate(ws: &[u32], tree: u32) -> Result<usize, Refusal>
+// A tree of the pool, or that there is no such tree.
+fn gate(ws: &[u32], tree: u32) -> Result<Tree<'_>, Refusal>
     requires { Sound leaf_least ws.now }
     ensures { Gates ws.now tree result }
 {
-    let t = pool::tree_count(ws);
-    if t <= tree as usize {
+    let trees = pool::tree_count(ws);
+    if trees <= tree as usize {
         return Err(Refusal::NoTree);
     }
-    Ok(t)
+    Ok(Tree {
+        words: ws,
+        trees,
+        number: tree,
+    })
 }
 
 // That the cursor stands, or that there is no such tree, or that it does not stand.
@@ -39,8 +45,8 @@ fn admit(ws: &[u32], at: Cursor) -> Result<(), Refusal>
     requires { Sound leaf_least ws.now }
     ensures { Admits ws.now at result }
 {
-    let t = gate(ws, at.tree)?;
-    if !stand::stands(ws, t, at) {
+    let tree = gate(ws, at.tree)?;
+    if !stand::stands(ws, tree.trees, at) {
         return Err(Refusal::NoPlace);
     }
     Ok(())
@@ -52,6 +58,18 @@ fn allow(ws: &[u32], at: Cursor) -> Result<(), Refusal>
 {
     checked(ws)?;
     admit(ws, at)
+}
+
+// A cursor that stands, with its words.
+fn standing(ws: &[u32], at: Cursor) -> MapCursor<'_>
+    requires { Stood ws.now at }
+    ensures { (result.words.now ≡ ws.now) × (result.cursor ≡ at) }
+{
+    MapCursor {
+        words: ws,
+        trees: pool::tree_count(ws),
+        cursor: at,
+    }
 }
 
 // A move that is refused hands the cursor back.
@@ -89,8 +107,8 @@ pub fn sound_get(ws: &[u32], tree: u32, key: u32) -> Reply
     requires { Sound leaf_least ws.now }
     ensures { Calls leaf_least (get tree key) ws.now ws.now result }
 {
-    let t = gate(ws, tree)?;
-    Ok(held(path::look_for(ws, t, tree, key), key))
+    let here = gate(ws, tree)?;
+    Ok(held(here.look_for(key), key))
 }
 
 // Files a value under a key, in place of an earlier one, which is told.
@@ -98,7 +116,8 @@ pub fn sound_put(ws: &mut [u32], tree: u32, key: u32, value: u32) -> Reply
     requires { Sound leaf_least ws.old }
     ensures { Calls leaf_least (put tree key value) ws.old ws.new result }
 {
-    let t = gate(ws, tree)?;
+    let here = gate(ws, tree)?;
+    let t = here.trees;
     grow::put(ws, t, tree, key, value)
 }
 
@@ -107,11 +126,12 @@ pub fn sound_remove(ws: &mut [u32], tree: u32, key: u32) -> Reply
     requires { Sound leaf_least ws.old }
     ensures { Calls leaf_least (remove tree key) ws.old ws.new result }
 {
-    let t = gate(ws, tree)?;
+    let here = gate(ws, tree)?;
+    let t = here.trees;
     if pool::root(ws, tree) == 0 {
         return Ok(None);
     }
-    let foot = path::find_leaf(ws, t, tree, key);
+    let foot = here.find_leaf(key);
     let n = foot.node;
     let at = foot.place;
     let look = path::look_in(ws, t, n, at);
@@ -132,11 +152,11 @@ pub fn sound_seek(ws: &[u32], at: Cursor, key: u32) -> Moved
 {
     match gate(ws, at.tree) {
         Err(why) => refused(why, at),
-        Ok(t) => {
-            let c = path::find(ws, t, at.tree, key);
+        Ok(tree) => {
+            let there = MapCursor::goto(&tree, key);
             Moved {
-                reply: Ok(held(path::look_at(ws, t, c), key)),
-                cursor: c,
+                reply: Ok(held(there.look(), key)),
+                cursor: there.cursor,
             }
         }
     }
@@ -149,10 +169,7 @@ pub fn sound_first(ws: &[u32], at: Cursor) -> Moved
 {
     match gate(ws, at.tree) {
         Err(why) => refused(why, at),
-        Ok(t) => {
-            let c = path::first(ws, t, at.tree);
-            moves::seen(ws, t, c)
-        }
+        Ok(tree) => MapCursor::goto_first(&tree).seen(),
     }
 }
 
@@ -161,11 +178,10 @@ pub fn sound_settle(ws: &[u32], at: Cursor) -> Moved
     requires { Stood ws.now at }
     ensures { Moves leaf_least to_settled at ws.now ws.now result.reply result.cursor }
 {
-    let t = pool::tree_count(ws);
-    let c = moves::normalize(ws, t, at);
+    let there = standing(ws, at).normalize();
     Moved {
         reply: Ok(None),
-        cursor: c,
+        cursor: there.cursor,
     }
 }
 
@@ -174,9 +190,7 @@ pub fn sound_next(ws: &[u32], at: Cursor) -> Moved
     requires { Stood ws.now at }
     ensures { Moves leaf_least to_next at ws.now ws.now result.reply result.cursor }
 {
-    let t = pool::tree_count(ws);
-    let c = moves::next(ws, t, at);
-    moves::seen(ws, t, c)
+    standing(ws, at).next().seen()
 }
 
 // Go to the pair before, and tell it; on the first pair stay, and tell none.
@@ -184,8 +198,7 @@ pub fn sound_prev(ws: &[u32], at: Cursor) -> Moved
     requires { Stood ws.now at }
     ensures { Moves leaf_least to_prev at ws.now ws.now result.reply result.cursor }
 {
-    let t = pool::tree_count(ws);
-    moves::prev(ws, t, at)
+    standing(ws, at).prev()
 }
 
 // Takes out the pair that the cursor is on, tells its value, and goes to the next; on no pair nothing happens.
@@ -194,8 +207,7 @@ pub fn sound_remove_at(ws: &mut [u32], at: Cursor) -> Moved
     ensures { Moves leaf_least to_remove at ws.old ws.new result.reply result.cursor }
 {
     let t = pool::tree_count(ws);
-    let look = path::look_at(ws, t, at);
-    let Some((_, value)) = look else {
+    let Some((_, value)) = standing(ws, at).look() else {
         return Moved {
             reply: Ok(None),
             cursor: at,
