@@ -2,7 +2,8 @@
 use mathlib.Core.Path.{◌≡◌, refl, sym, ap, ◌∙◌, subst}
 use mathlib.Core.List.{List, [], ◌∷◌}
 use Rattle.std.specs.Prelude.{true, false, Option, Some, None, is_some}
-use Prim.Native.Nat.{ℕ, zero, suc, ◌+◌, ◌≤◌, ◌<◌}
+use Rattle.std.proofs.lemmas.Option.{none-some, same_Some}
+use Prim.Native.Nat.{ℕ, suc, ◌+◌, ◌≤◌, ◌<◌}
 use native.Mathlib.Omega.{arith}
 use lib.ListN.{length, get_or, set, length-set}
 use lib.Seq.{get_or-set_same, get_or-set_other}
@@ -14,16 +15,16 @@ use Rattle.forest.specs.Trees.{numbers}
 use Rattle.forest.specs.Pairs.{Item}
 use Rattle.forest.specs.declared.Cursor.{Cursor}
 use Rattle.forest.proofs.ListLaws.{is, isnt, test}
-use Rattle.pool.specs.Stores.{block, Placed}
-use Rattle.crit.specs.States.{State, at, more, right_sibling, next_at, next_path, next_node, next_with, node_at, lives}
+use Rattle.pool.specs.Stores.{Store, block, Placed}
+use Rattle.crit.specs.States.{State, at, more, first_child, right_sibling, next_at, next_path, next_node, next_with, node_at, lives}
 use Rattle.crit.specs.Paths.{num_at, Stacked, HoldsUp, Leads}
-use Rattle.crit.specs.Asks.{Mem, moved, Spelt, Route, RightRoute, Leaves, Finds, Passes, off_end}
+use Rattle.crit.specs.Asks.{Mem, moved, Spelt, Route, Leaves, Nexts, Passes, off_end}
 use Rattle.crit.proofs.HealStack
 use Rattle.crit.proofs.HealPath
 use Rattle.crit.proofs.HealNext
 use Rattle.crit.proofs.SpeltLaws.{spelt_block, spelt_placed, same_count}
-use Rattle.crit.proofs.WayLaws.{way_block, named_row, named_rest}
-use Rattle.crit.proofs.RightLaws.{more_yes, more_no}
+use Rattle.crit.proofs.WayLaws.{way_block, named_row}
+use Rattle.crit.proofs.RightLaws.{more_yes, more_no, right_here}
 use Rattle.forest.proofs.RowLaws.{parent_there}
 
 -- one number of a list changes
@@ -63,6 +64,11 @@ spelt_off sp e = rw e (record {
   tree = sp.tree;
   size = refl;
 })
+
+-- a way with a node to the right
+pub record RightRoute (ws : List ℕ) (t : ℕ) (c : Cursor) (level : ℕ) : Type 0 where
+  pub way : Route ws t c level
+  pub more : suc way.at < length way.row
 
 module _ {ws : List ℕ} {t : ℕ} {c : Cursor} {level : ℕ} (g : RightRoute ws t c level) (l : ℕ) (e : suc l ≡ level) where
   -- the next node is to the right in the same parent
@@ -104,32 +110,6 @@ module _ {ws : List ℕ} {t : ℕ} {c : Cursor} {level : ℕ} (g : RightRoute ws
         | HealStack.across x v w ↦ rw v at (parent_there S (suc g.way.at) (omega (arith, g.more)))
       ]
 
-  pub goes_up : (w : List ℕ) (p : ℕ) → w ≡ block ws t (get_or c.nodes l 0) → p ≡ get_or c.places l 0 → get_or w 0 0 ≤ p + 16 → RightRoute ws t c l
-  goes_up w p q a h = from g.way.rows g.way.levels g.way.stacked g.way.named g.way.up g.way.path
-    where
-      from : (rows : List Row) → length rows ≡ level → Stacked g.way.row rows → ((x : ℕ) → 1 ≤ count x (numbers rows) → (1 ≤ x) × (x ≤ g.way.mem.count)) → HoldsUp g.way.mem.s.st rows →
-          Leads g.way.row g.way.at rows g.way.mem.s.ns g.way.mem.s.ps → RightRoute ws t c l
-      from [] z s nm u r = absurd (omega arith)
-      from (S ∷ Ss) z s nm u r =
-          let b : sum (sizes S) ≡ length g.way.row = HealStack.stacked-sum g.way.row S s.0 in
-          record {
-            way = record {
-              deep = omega (arith, g.way.deep);
-              mem = g.way.mem;
-              spelt = g.way.spelt;
-              row = S;
-              at = parent (sizes S) g.way.at;
-              rows = Ss;
-              levels = omega arith;
-              inside = parent_there S g.way.at (omega (arith, g.way.inside));
-              stacked = s.2;
-              named = named_rest g.way.mem.count S Ss nm;
-              up = u.1;
-              path = r.2;
-            };
-            more = crossed S Ss (omega arith) s u r (none_right w p q a h);
-          }
-
   -- the node above that the path goes on through
   next_inside : (d : Cursor) → more g.way.mem.s.st g.way.mem.s.ns g.way.mem.s.ps l ≡ false → Leaves (next_path l) ws ws t c d → (1 ≤ get_or d.nodes l 0) × (get_or d.nodes l 0 ≤ g.way.mem.count)
   next_inside d mo f = from g.way.rows g.way.levels g.way.stacked g.way.named g.way.up g.way.path
@@ -168,34 +148,76 @@ module _ {ws : List ℕ} {t : ℕ} {c : Cursor} {level : ℕ} (g : RightRoute ws
         (ap length n2 ∙ length-set d.nodes (suc l) (get_or (m.s.st ((next_at m.s.st m.s.ns m.s.ps l).0 l)) 8 0) ∙ o.long) (ap length ps ∙ length-set d.places l 0 ∙ o.wide) tr sz);
   }
 
-pub path_root : {ws : List ℕ} {t : ℕ} {c : Cursor} (level : ℕ) → level ≤ 0 → Leaves (next_path level) ws ws t c c
-path_root zero h = record { run = λ m sp. sp }
-path_root (suc l) h = absurd (omega arith)
-
--- next_node
-pub goes_right : {ws : List ℕ} {t : ℕ} {c : Cursor} {level : ℕ} (y : Route ws t c level) (near : Option Item) → Finds ws t c level near → is_some near ≡ true → RightRoute ws t c level
-goes_right {level} y near f x = elim (test (ltb (suc y.at) (length y.row))) [
+goes_right : {ws : List ℕ} {t : ℕ} {c : Cursor} {level : ℕ} (y : Route ws t c level) → is_some (right_sibling y.mem.s.st y.mem.s.ns y.mem.s.ps level) ≡ true → RightRoute ws t c level
+goes_right {level} y x = elim (test (ltb (suc y.at) (length y.row))) [
   | is e ↦ record { way = y; more = ltb-true _ _ e }
   | isnt e ↦
       let z : suc y.at ≡ length y.row = (let k = ltb-false (suc y.at) (length y.row) e in omega (arith, y.inside)) in
       let r = HealPath.right_none y.mem.s.st y.mem.s.ns y.mem.s.ps y.row y.at y.rows z y.stacked y.up y.path in
       let r2 : right_sibling y.mem.s.st y.mem.s.ns y.mem.s.ps level ≡ None = rw y.levels at r in
-      absurd (let n : near ≡ None = f.run y.mem y.spelt ∙ r2 in grind (arith, n, x))
+      absurd (grind (arith, r2, x))
 ]
 
-pub next_some : {ws : List ℕ} {t : ℕ} {c d r : Cursor} {level : ℕ} (near : Option Item) (k n : ℕ) → level < 16 → Finds ws t c level near → near ≡ Some (k, n) → Leaves (next_path level) ws ws t c d →
-    r.nodes ≡ d.nodes → r.places ≡ set d.places level 0 → r.tree ≡ d.tree → r.size ≡ d.size → Leaves (next_node level) ws ws t c r
-next_some {ws} {t} {c} {d} {r} {level} near k n b f x g ns ps tr sz = record {
+child_some : (st : Store) (o : Option Item) → is_some (first_child st (λ x. 0) (λ x. 0) o) ≡ is_some o
+child_some st None = refl
+child_some st (Some x) = refl
+
+-- next_path
+module _ {ws : List ℕ} {t : ℕ} {c : Cursor} {level : ℕ} (y : Route ws t c level) (l : ℕ) (e : suc l ≡ level) (w : List ℕ) (p : ℕ) (q : w ≡ block ws t (get_or c.nodes l 0)) (a : p ≡ get_or c.places l 0) where
+  pub nexts_here : (d : Cursor) → p + 16 < get_or w 0 0 → d.nodes ≡ set c.nodes level (get_or w (9 + p) 0) → d.places ≡ set c.places l (p + 1) → d.tree ≡ c.tree → d.size ≡ c.size → Nexts ws t c level (Some d)
+  nexts_here d h ns ps tr sz =
+      let f = right_here y l e w p q a h in
+      record {
+        found = λ m sp. ap is_some (f.run m sp);
+        leads = λ r x. subst (Leaves (next_path level) ws ws t c) (same_Some d r x) (path_here (goes_right y (ap is_some (sym (f.run y.mem y.spelt)))) l e w p d q a h ns ps tr sz);
+      }
+
+  module _ (h : get_or w 0 0 ≤ p + 16) {r : Option Cursor} (f : Nexts ws t c l r) where
+    up_found : (m : Mem) → Spelt ws t c m → is_some r ≡ is_some (right_sibling m.s.st m.s.ns m.s.ps level)
+    up_found m sp =
+        let mo = more_no y l e m sp (rw (q, a) at h) in
+        subst (λ (z : ℕ). is_some r ≡ is_some (right_sibling m.s.st m.s.ns m.s.ps z)) e (simp mo (f.found m sp ∙ sym (child_some m.s.st (right_sibling m.s.st m.s.ns m.s.ps l))))
+
+    pub nexts_off : r ≡ None → Nexts ws t c level None
+    nexts_off x = record { found = λ m sp. ap is_some (sym x) ∙ up_found m sp; leads = λ d z. absurd (none-some d z) }
+
+    module _ (d : Cursor) (x : r ≡ Some d) where
+      up_route : RightRoute ws t c level
+      up_route = goes_right y (sym (up_found y.mem y.spelt) ∙ ap is_some x)
+
+      pub nexts_placed : Placed ws t (get_or d.nodes l 0)
+      nexts_placed = path_placed up_route l e w p d q a h (f.leads d x)
+
+      pub nexts_up : (v : List ℕ) (s : Cursor) → v ≡ block ws t (get_or d.nodes l 0) →
+          s.nodes ≡ set d.nodes level (get_or v 8 0) → s.places ≡ set d.places l 0 → s.tree ≡ d.tree → s.size ≡ d.size → Nexts ws t c level (Some s)
+      nexts_up v s b ns ps tr sz = record {
+        found = λ m sp. ap is_some (sym x) ∙ up_found m sp;
+        leads = λ z k. subst (Leaves (next_path level) ws ws t c) (same_Some s z k) (path_up_lem up_route l e w p v d s q a h (f.leads d x) b ns ps tr sz);
+      }
+
+-- next_node
+next_with_some : (o : Option Item) (l : ℕ) (s : State) → is_some o ≡ true → next_with o l s ≡ next_with (Some (0, 0)) l s
+next_with_some None l s e = absurd (grind (arith, e))
+next_with_some (Some x) l s e = refl
+
+pub next_some : {ws : List ℕ} {t : ℕ} {c d s : Cursor} {level : ℕ} (r : Option Cursor) → level < 16 → Nexts ws t c level r → r ≡ Some d → s.nodes ≡ d.nodes → s.places ≡ set d.places level 0 → s.tree ≡ d.tree → s.size ≡ d.size → Leaves (next_node level) ws ws t c s
+next_some {ws} {t} {c} {d} {s} {level} r b f x ns ps tr sz = record {
   run = λ m sp.
-      let q = g.run m sp in
-      rw (sym (f.run m sp) ∙ x) (
-      spelt_path q (next_with (Some (k, n)) level m.s) refl refl refl
+      let q = (f.leads d x).run m sp in
+      rw (next_with_some (right_sibling m.s.st m.s.ns m.s.ps level) level m.s (sym (f.found m sp) ∙ ap is_some x)) (
+      spelt_path q (next_with (Some (0, 0)) level m.s) refl refl refl
       (λ i h. rw ns (q.nodes i h)) (λ i h. rw ps (set_at d.places (next_at m.s.st m.s.ns m.s.ps level).1 level 0 q.wide b q.places i h))
       (ap length ns ∙ q.long) (ap length ps ∙ length-set d.places level 0 ∙ q.wide) tr sz);
 }
 
-pub next_none : {ws : List ℕ} {t : ℕ} {c r : Cursor} {level : ℕ} (near : Option Item) → Finds ws t c level near → near ≡ None → r ≡ off_end c → Leaves (next_node level) ws ws t c r
-next_none {ws} {t} {c} {r} {level} near f x e = record { run = λ m sp. rw (sym (f.run m sp) ∙ x) (spelt_off sp e) }
+none_is : (o : Option Item) → is_some o ≡ false → o ≡ None
+none_is None e = refl
+none_is (Some x) e = absurd (grind (arith, e))
+
+pub next_none : {ws : List ℕ} {t : ℕ} {c s : Cursor} {level : ℕ} (r : Option Cursor) → Nexts ws t c level r → r ≡ None → s ≡ off_end c → Leaves (next_node level) ws ws t c s
+next_none {ws} {t} {c} {s} {level} r f x e = record {
+  run = λ m sp. rw (none_is (right_sibling m.s.st m.s.ns m.s.ps level) (sym (f.found m sp) ∙ ap is_some x)) (spelt_off sp e);
+}
 
 -- through_right
 pub passes_some : {c r : Cursor} {level : ℕ} (near : Option Item) (k n : ℕ) → level < 16 → near ≡ Some (k, n) → r.nodes ≡ set c.nodes level n → r.places ≡ c.places → r.tree ≡ c.tree → r.size ≡ c.size → Passes c r level near

@@ -1,5 +1,5 @@
 -- DEFINITIONS. What the functions of removal ask of the words and the cursor, and what they leave
-use Rattle.std.specs.Prelude.{◌≡◌, List, cond, ℕ, suc, ◌≤◌, ◌<◌, length, get_or, Option}
+use Rattle.std.specs.Prelude.{◌≡◌, List, cond, ℕ, ◌≤◌, ◌<◌, length, get_or, Option, Some, is_some}
 use Rattle.forest.specs.Sizes.{most_nodes, most_levels}
 use Rattle.forest.specs.Lists.{count}
 use Rattle.forest.specs.Pairs.{Item}
@@ -7,7 +7,7 @@ use Rattle.forest.specs.Rows.{Row}
 use Rattle.forest.specs.Trees.{numbers}
 use Rattle.forest.specs.declared.Cursor.{Cursor}
 use Rattle.pool.specs.Stores.{Sixteen, spell}
-use Rattle.crit.specs.States.{State, right_sibling, crit_key, through_right}
+use Rattle.crit.specs.States.{State, right_sibling, crit_key, next_path, through_right}
 use Rattle.crit.specs.Paths.{Stacked, HoldsUp, Leads}
 
 -- a pool's words over a state: roots, N, the tree of the cursor and its size while it is on a pair
@@ -62,10 +62,10 @@ pub record Finds (ws : List ℕ) (t : ℕ) (c : Cursor) (level : ℕ) (r : Optio
 pub record Crits (ws : List ℕ) (t : ℕ) (c : Cursor) (level : ℕ) (r : Option ℕ) : Type 0 where
   pub run : (m : Mem) → Spelt ws t c m → r ≡ crit_key m.s.st m.s.ns m.s.ps level
 
--- a way with a node to the right
-pub record RightRoute (ws : List ℕ) (t : ℕ) (c : Cursor) (level : ℕ) : Type 0 where
-  pub way : Route ws t c level
-  pub more : suc way.at < length way.row
+-- where next_path leads: through the right sibling, if there is one
+pub record Nexts (ws : List ℕ) (t : ℕ) (c : Cursor) (level : ℕ) (r : Option Cursor) : Type 0 where
+  pub found : (m : Mem) → Spelt ws t c m → is_some r ≡ is_some (right_sibling m.s.st m.s.ns m.s.ps level)
+  pub leads : (d : Cursor) → r ≡ Some d → Leaves (next_path level) ws ws t c d
 
 -- the cursor off the end, its nodes and places as they are
 abbrev pub off_end : Cursor → Cursor

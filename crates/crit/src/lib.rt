@@ -2,8 +2,8 @@
 #![tactic(auto)]
 
 ghost use Rattle.std.specs.Prelude.{◌≡◌, ◌<◌};
-ghost use Rattle.crit.specs.States.{stored, right_set, left_set, hand_key, next_path, next_node};
-ghost use Rattle.crit.specs.Asks.{Route, RightRoute, Leaves, Finds, Crits, Passes, off_end};
+ghost use Rattle.crit.specs.States.{stored, right_set, left_set, hand_key, next_node};
+ghost use Rattle.crit.specs.Asks.{Route, Leaves, Nexts, Finds, Crits, Passes, off_end};
 
 use forest::Cursor;
 
@@ -96,12 +96,12 @@ pub fn hand_crit_key(ws: &mut [u32], t: usize, c: Cursor, level: usize)
 }
 
 // The path to the right sibling of the node at a level.
-fn next_path(ws: &[u32], t: usize, c: Cursor, level: usize) -> Cursor
-    requires { RightRoute ws.now t c level }
-    ensures { Leaves (next_path level) ws.now ws.now t c result }
+fn next_path(ws: &[u32], t: usize, c: Cursor, level: usize) -> Option<Cursor>
+    requires { Route ws.now t c level }
+    ensures { Nexts ws.now t c level result }
 {
     if level == 0 {
-        return c;
+        return None;
     }
     let l = level - 1;
     let n = c.nodes[l];
@@ -111,14 +111,14 @@ fn next_path(ws: &[u32], t: usize, c: Cursor, level: usize) -> Cursor
         let mut d = c;
         d.nodes[level] = w[9 + p as usize];
         d.places[l] = p + 1;
-        return d;
+        return Some(d);
     }
-    let mut d = next_path(ws, t, c, l);
+    let mut d = next_path(ws, t, c, l)?;
     let q = d.nodes[l];
     let v = pool::load(ws, t, q);
     d.nodes[level] = v[8];
     d.places[l] = 0;
-    d
+    Some(d)
 }
 
 // The cursor goes off the end; its nodes and places stay.
@@ -133,10 +133,9 @@ pub fn next_node(ws: &[u32], t: usize, c: Cursor, level: usize) -> Cursor
     requires { Route ws.now t c level }
     ensures { Leaves (next_node level) ws.now ws.now t c result }
 {
-    if right_sibling(ws, t, c, level).is_none() {
+    let Some(mut d) = next_path(ws, t, c, level) else {
         return off_end(c);
-    }
-    let mut d = next_path(ws, t, c, level);
+    };
     d.places[level] = 0;
     d
 }
