@@ -1,17 +1,13 @@
 -- DEFINITIONS. What the programs print of words and replies
-use Rattle.std.specs.Prelude.{ℕ, Bool, true, false, List, [], ◌∷◌, ◌++◌, flat_map}
+use Rattle.std.specs.Prelude.{ℕ, List, [], ◌∷◌, ◌++◌, flat_map}
 use Rattle.std.specs.Fmt.{decimal}
+use Rattle.std.specs.Int.{from_bool}
 use Rattle.forest.specs.declared.Answer.{Answer}
 
 -- a number's digits, and a blank
 abbrev pub spaced : ℕ → List ℕ
 spaced n = decimal n ++ 32 ∷ []
 
--- 1 for found, 0 for not found
-abbrev pub digit : Bool → ℕ
-digit true = 1
-digit false = 0
-
--- the four numbers of an answer
+-- the four numbers of an answer; found is 1, not found 0
 abbrev pub answer_text : Answer → List ℕ
-answer_text a = flat_map spaced (a.number ∷ digit a.found ∷ a.key ∷ a.value ∷ [])
+answer_text a = flat_map spaced (a.number ∷ from_bool a.found ∷ a.key ∷ a.value ∷ [])

@@ -59,6 +59,7 @@ fn moves(rt: &impl Print, ws: &[u32], c: Cursor) -> io::Result<()> {
     show(rt, map::prev(ws, c))
 }
 
+// Each get of a key, there or not.
 fn gets(rt: &impl Print, ws: &[u32]) -> io::Result<()> {
     println!(rt; "get 38, 40, 70 of B; 5 of tree 1; 5 of tree 2; 5 of tree 3")?;
     for (tree, key) in [(0, 38), (0, 40), (0, 70), (1, 5), (2, 5), (3, 5)] {
@@ -67,6 +68,7 @@ fn gets(rt: &impl Print, ws: &[u32]) -> io::Result<()> {
     Ok(())
 }
 
+// The first pair of each tree.
 fn firsts(rt: &impl Print, ws: &[u32]) -> io::Result<()> {
     println!(rt; "first of B, of tree 1, of tree 2, of tree 3; from a cursor of size 99")?;
     for tree in 0..4 {
@@ -82,6 +84,7 @@ fn sought(rt: &impl Print, ws: &[u32], key: u32) -> io::Result<()> {
     moves(rt, ws, m.cursor)
 }
 
+// Keys that are there, and keys that are not.
 fn seeks(rt: &impl Print, ws: &[u32]) -> io::Result<()> {
     println!(rt; "seek 38, then settle, next, prev; the same with 5, 10, 35, 40, 70, 99")?;
     for key in [38, 5, 10, 35, 40, 70, 99] {
@@ -90,6 +93,7 @@ fn seeks(rt: &impl Print, ws: &[u32]) -> io::Result<()> {
     Ok(())
 }
 
+// Cursors off the end, and trees with nothing in them.
 fn ends(rt: &impl Print, ws: &[u32]) -> io::Result<()> {
     println!(rt; "size 0 in B, in tree 1, in tree 2; seek in tree 2, in tree 3")?;
     for tree in 0..3 {
@@ -99,6 +103,7 @@ fn ends(rt: &impl Print, ws: &[u32]) -> io::Result<()> {
     show(rt, map::seek(ws, at(3, 5, 1, 1, 1, 1), 5))
 }
 
+// Cursors that no call handed back.
 fn garbage(rt: &impl Print, ws: &[u32]) -> io::Result<()> {
     println!(rt;
         "size 17; size 4,294,967,295; wrong child; unused level; other tree's root; ends at an inner node"
@@ -111,6 +116,7 @@ fn garbage(rt: &impl Print, ws: &[u32]) -> io::Result<()> {
     moves(rt, ws, at(0, 1, 3, 0, 0, 0))
 }
 
+// More of them.
 fn more_garbage(rt: &impl Print, ws: &[u32]) -> io::Result<()> {
     println!(rt;
         "entry 5 of 4; size 0 with a level; a level in an empty tree; tree 3 with size 99"
@@ -128,6 +134,7 @@ fn broken() -> [u32; 74] {
     ws
 }
 
+// Each call on words that are not sound.
 fn unsound(rt: &impl Print, ws: &[u32]) -> io::Result<()> {
     println!(rt; "words that are not sound, tree 3")?;
     moves(rt, ws, at(3, 99, 3, 0, 1, 0))?;

@@ -16,9 +16,10 @@ use std::io;
 
 // The words of the largest pool.
 const ROOM: usize = MAX_TREES as usize + 17 * MAX_NODES as usize + 3;
-// Words that are kept of a pool of the input, and of all four.
+// Words that are kept of a pool of the input.
 const PART: usize = 256;
 
+// Words that are kept of all four.
 const KEPT: usize = 4 * PART;
 
 // A pool that the input names.

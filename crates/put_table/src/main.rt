@@ -13,6 +13,7 @@ fn answer(rt: &impl Print, r: Reply) -> io::Result<()> {
     println!(rt; "{} {} {} ", a.number, u32::from(a.found), a.value)
 }
 
+// A put in tree 0, and its answer.
 fn put(rt: &impl Print, ws: &mut [u32], key: u32, value: u32) -> io::Result<()> {
     answer(rt, map::put(ws, 0, key, value))
 }
@@ -50,6 +51,7 @@ fn fill(ws: &mut [u32], from: u32, step: u32) -> u32
     101
 }
 
+// A pool of 12 nodes, filled: how many keys came, and the words then.
 fn filled(rt: &impl Print, ws: &mut [u32], from: u32, step: u32) -> io::Result<()>
     requires { (from < 101) × (step < 101) }
 {
@@ -58,6 +60,7 @@ fn filled(rt: &impl Print, ws: &mut [u32], from: u32, step: u32) -> io::Result<(
     println!(rt; "{}", Words(ws))
 }
 
+// P1, P4 and P2: A with one more key.
 fn trials(rt: &impl Print) -> io::Result<()> {
     let mut b = [0; 55];
     tree_a(rt, "P1, P4: A with 35 put, and again", &mut b, 3)?;
@@ -67,6 +70,7 @@ fn trials(rt: &impl Print) -> io::Result<()> {
     shown(rt, &mut b, 45, 450)
 }
 
+// P3: a put that finds no room.
 fn no_room(rt: &impl Print) -> io::Result<()> {
     let mut b = [0; 38];
     tree_a(
@@ -79,6 +83,7 @@ fn no_room(rt: &impl Print) -> io::Result<()> {
     shown(rt, &mut b, 70, 7)
 }
 
+// A pool of no nodes.
 fn no_nodes(rt: &impl Print) -> io::Result<()> {
     println!(rt; "no node at all")?;
     let mut b = [0; 4];
@@ -86,6 +91,7 @@ fn no_nodes(rt: &impl Print) -> io::Result<()> {
     shown(rt, &mut b, 1, 1)
 }
 
+// The ends of the keys, and what is refused.
 fn ends(rt: &impl Print) -> io::Result<()> {
     println!(rt; "the least key and the greatest; tree 1 of one tree; words that are not sound")?;
     let mut b = [0; 38];
@@ -98,6 +104,7 @@ fn ends(rt: &impl Print) -> io::Result<()> {
     shown(rt, &mut b, 5, 5)
 }
 
+// Fills in three orders.
 fn fills(rt: &impl Print) -> io::Result<()> {
     println!(rt; "ascending, descending and mixed, until there is no room")?;
     let mut b = [0; 208];

@@ -31,13 +31,9 @@ fn moved(rt: &impl Print, m: Moved) -> io::Result<Cursor> {
     Ok(cursor)
 }
 
-fn seek(rt: &impl Print, ws: &[u32], key: u32) -> io::Result<Cursor> {
-    moved(rt, map::seek(ws, START, key))
-}
-
 // Seek, then remove at the cursor.
 fn take(rt: &impl Print, ws: &mut [u32], key: u32) -> io::Result<Cursor> {
-    let c = seek(rt, ws, key)?;
+    let c = moved(rt, map::seek(ws, START, key))?;
     moved(rt, map::remove_at(ws, c))
 }
 
@@ -46,6 +42,7 @@ fn remove(rt: &impl Print, ws: &mut [u32], key: u32) -> io::Result<()> {
     println!(rt; "{}", Numbers(map::remove(ws, 0, key)))
 }
 
+// A put in tree 0, not told.
 fn put(ws: &mut [u32], key: u32) {
     map::put(ws, 0, key, 7);
 }
@@ -78,12 +75,14 @@ fn trial(rt: &impl Print, name: &str, key: u32) -> io::Result<()> {
     println!(rt; "{}", Words(&b))
 }
 
+// P5 to P7.
 fn trials(rt: &impl Print) -> io::Result<()> {
     trial(rt, "P5: B, 10 removed", 10)?;
     trial(rt, "P6: B, 70 removed", 70)?;
     trial(rt, "P7: B, 40 removed", 40)
 }
 
+// P8.
 fn after_a_put(rt: &impl Print) -> io::Result<()> {
     println!(rt; "P8: B with 80 put, 20 removed")?;
     let mut b = [0; 55];
@@ -93,6 +92,7 @@ fn after_a_put(rt: &impl Print) -> io::Result<()> {
     println!(rt; "{}", Words(&b))
 }
 
+// P9: the move after a removal.
 fn and_next(rt: &impl Print) -> io::Result<()> {
     println!(rt; "P9: B, 38 sought, removed there, next")?;
     let mut b = [0; 55];
@@ -102,6 +102,7 @@ fn and_next(rt: &impl Print) -> io::Result<()> {
     println!(rt; "{}", Words(&b))
 }
 
+// P10.
 fn one_pair(rt: &impl Print) -> io::Result<()> {
     println!(rt; "P10: one pair, removed, and removed again")?;
     let mut b = [0; 38];
@@ -112,6 +113,7 @@ fn one_pair(rt: &impl Print) -> io::Result<()> {
     println!(rt; "{}", Words(&b))
 }
 
+// A removal that merges up to the root.
 fn merges(rt: &impl Print, b: &mut [u32]) -> io::Result<()> {
     long_tree(
         rt,
@@ -123,6 +125,7 @@ fn merges(rt: &impl Print, b: &mut [u32]) -> io::Result<()> {
     println!(rt; "{}", Words(b))
 }
 
+// A right end that empties with its parent.
 fn right_end(rt: &impl Print, b: &mut [u32]) -> io::Result<()> {
     long_tree(
         rt,
@@ -157,6 +160,7 @@ fn from_the_left(rt: &impl Print, b: &mut [u32]) -> io::Result<()> {
     println!(rt; "{}", Words(b))
 }
 
+// Removals from the trees of 36 keys.
 fn long_trees(rt: &impl Print) -> io::Result<()> {
     let mut b = [0; 208];
     merges(rt, &mut b)?;
@@ -165,6 +169,7 @@ fn long_trees(rt: &impl Print) -> io::Result<()> {
     from_the_left(rt, &mut b)
 }
 
+// What is refused.
 fn refusals(rt: &impl Print) -> io::Result<()> {
     println!(rt; "tree 1 of one tree; a cursor of size 17; words that are not sound")?;
     let mut b = [0; 55];

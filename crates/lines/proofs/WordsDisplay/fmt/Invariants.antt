@@ -1,3 +1,4 @@
+-- What was written so far is the text of the words so far.
 use Rattle.std.proofs.Common.{take, flat_map}
 use Rattle.std.specs.Fmt.{HasWritten, IsPlainFormatter}
 use Rattle.lines.specs.Text.{spaced}
