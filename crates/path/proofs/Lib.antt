@@ -9,3 +9,4 @@ pub mod Seats
 pub mod Made
 pub mod Branches
 pub mod Foots
+pub mod Along

@@ -124,21 +124,14 @@ pub fn down(ws: &[u32], t: usize, way: Way, c: Cursor, node: u32, left: usize) -
 {
     let mut out = c;
     let mut n = node;
-    let mut k = left;
-    while 0 < k {
+    for _ in 0..left {
         let b = t + 16 * (n as usize) - 14;
-        let w = ws[b];
-        if 32 <= w {
-            let e = land(ws, b, way);
-            return push(out, n, e);
+        if 32 <= ws[b] {
+            return push(out, n, land(ws, b, way));
         }
         let i = turn(ws, b, way);
-        let l = out.size as usize;
-        out.nodes[l] = n;
-        out.places[l] = i as u32;
-        out.size = out.size + 1;
+        out = push(out, n, i);
         n = ws[b + 8 + i];
-        k -= 1;
     }
     out
 }
@@ -221,16 +214,13 @@ fn leaf_below(ws: &[u32], t: usize, way: Way, node: u32, left: usize) -> u32
     ensures { result ≡ foot_of way left ws.now t node }
 {
     let mut n = node;
-    let mut k = left;
-    while 0 < k {
+    for _ in 0..left {
         let b = t + 16 * (n as usize) - 14;
-        let w = ws[b];
-        if 32 <= w {
+        if 32 <= ws[b] {
             return n;
         }
         let i = turn(ws, b, way);
         n = ws[b + 8 + i];
-        k -= 1;
     }
     n
 }
