@@ -8,7 +8,7 @@ ghost use Rattle.forest.specs.Slices.{KeysRise};
 ghost use Rattle.forest.specs.Cursors.{cursor_at, first, seek};
 ghost use Rattle.path.specs.Ways.{block_at, keys_of, turn_of, land_of, descend, foot_of, Deep};
 ghost use Rattle.path.specs.Levels.{pushed, extended, cut_at, right_branch, left_branch, Safe};
-ghost use Rattle.path.specs.Cores.{Ready, Standing, Goes, Sees, LeafIn, look_in, Ends, Looks};
+ghost use Rattle.path.specs.Cores.{Ready, Standing, Goes, aim, Sees, LeafIn, look_in, Ends, Looks};
 
 use forest::{Cursor, Found};
 
@@ -136,16 +136,24 @@ pub fn down(ws: &[u32], t: usize, way: Way, c: Cursor, node: u32, left: usize) -
     out
 }
 
-// Go to a key of a tree, or where it would be put.
-pub fn find(ws: &[u32], t: usize, tree: u32, key: u32) -> Cursor
+// Go down a tree from its root; in an empty tree off the end.
+fn go(ws: &[u32], t: usize, tree: u32, way: Way) -> Cursor
     requires { Ready ws.now t tree }
-    ensures { Goes (seek key) ws.now tree result }
+    ensures { Goes (aim way) ws.now tree result }
 {
     let root = ws[1 + tree as usize];
     if root == 0 {
         return off_end(tree);
     }
-    down(ws, t, Way::Key(key), off_end(tree), root, 16)
+    down(ws, t, way, off_end(tree), root, 16)
+}
+
+// Go to a key of a tree, or where it would be put.
+pub fn find(ws: &[u32], t: usize, tree: u32, key: u32) -> Cursor
+    requires { Ready ws.now t tree }
+    ensures { Goes (seek key) ws.now tree result }
+{
+    go(ws, t, tree, Way::Key(key))
 }
 
 // Go to the first pair of a tree.
@@ -153,11 +161,7 @@ pub fn first(ws: &[u32], t: usize, tree: u32) -> Cursor
     requires { Ready ws.now t tree }
     ensures { Goes first ws.now tree result }
 {
-    let root = ws[1 + tree as usize];
-    if root == 0 {
-        return off_end(tree);
-    }
-    down(ws, t, Way::First, off_end(tree), root, 16)
+    go(ws, t, tree, Way::First)
 }
 
 // Where a cursor stands

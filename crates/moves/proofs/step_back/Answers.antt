@@ -1,9 +1,10 @@
 use mathlib.Core.Path.{refl, sym, ◌∙◌}
 use native.Mathlib.Omega.{arith}
 use Rattle.forest.specs.Cursors.{off, prev}
+use Rattle.path.specs.declared.Way.TheVariants.{Last}
 use Rattle.moves.specs.Moves.{prev_leaf}
 use Rattle.path.proofs.Seats.{leafy}
-use Rattle.path.proofs.Roots.{trees_few, root-place, root_below, goes_empty, goes_last}
+use Rattle.path.proofs.Roots.{trees_few, root-place, root_below, goes_empty, goes_way}
 use Rattle.moves.proofs.Moving.{off_cursor, back_last, step_as, step_entry, prev_within, prev_beyond}
 use Rattle.moves.proofs.step_back.Goals as goal
 
@@ -23,7 +24,7 @@ goto_subtree_last-requires c = record {
 
 pub returns-then-size-eq0 : goal.returns-then-size-eq0
 returns-then-size-eq0 c =
-    back_last c.args.ws.now c.args.c _ c.if-size-eq0.true (goes_last c.args.ws.now c.args.t c.args.c.tree c.requires.ready c.args.c _ c.if-root-eq0.false (off_cursor c.args.ws.now c.args.t c.args.c c.requires.ready c.requires.standing c.if-size-eq0.true) c.goto_subtree_last.ensures)
+    back_last c.args.ws.now c.args.c _ c.if-size-eq0.true (goes_way c.args.ws.now c.args.t c.args.c.tree c.requires.ready Last c.args.c _ c.if-root-eq0.false (off_cursor c.args.ws.now c.args.t c.args.c c.requires.ready c.requires.standing c.if-size-eq0.true) c.goto_subtree_last.ensures)
 
 pub bounds-c-size : goal.bounds-c-size
 bounds-c-size c =
