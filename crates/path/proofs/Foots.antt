@@ -17,7 +17,7 @@ use Rattle.path.specs.declared.Way.{Way}
 use Rattle.path.specs.declared.Way.TheVariants.{Key}
 use Rattle.path.proofs.Steps.{first_word, link_word_at}
 use Rattle.path.proofs.CursorWords.{node_at_lem, place_at}
-use Rattle.path.proofs.Roots.{down_path, goes-seek, goes_empty}
+use Rattle.path.proofs.Roots.{down_path, goes_way, goes_empty}
 use Rattle.path.proofs.Seats.{Leafy, leafy, leaf_in, seat, looked, off_spot}
 use Rattle.path.proofs.Made.{fits-seek, gone_standing}
 
@@ -90,7 +90,7 @@ module _ (ws : List ℕ) (t tree : ℕ) (y : Ready ws t tree) (k : ℕ) where
     made = cursor_at tree way_down
 
     made-goes : Goes (seek k) ws tree made
-    made-goes = goes-seek ws t tree y k (cursor_at tree []) made z refl (sym (down_path ws t tree y (Key k)))
+    made-goes = goes_way ws t tree y (Key k) (cursor_at tree []) made z refl (sym (down_path ws t tree y (Key k)))
 
     made-ready : Ready ws t made.tree
     made-ready = y

@@ -9,4 +9,5 @@ pub mod Seats
 pub mod Made
 pub mod Branches
 pub mod Foots
+pub mod Along
 pub mod Trees

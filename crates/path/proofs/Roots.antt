@@ -7,13 +7,13 @@ use lib.ListN.{length, get_or}
 use Rattle.forest.specs.Sizes.{leaf_least}
 use Rattle.forest.specs.Rows.{Row, Tree}
 use Rattle.forest.specs.Pools.{Pool, tree_of, root, root_above}
-use Rattle.forest.specs.Cursors.{Spot, off, leaves, first, seek, prev, path_of, cursor_at}
+use Rattle.forest.specs.Cursors.{Spot, off, leaves, path_of, cursor_at}
 use Rattle.forest.specs.declared.Cursor.{Cursor}
 use Rattle.forest.proofs.WordLaws.{first_word, root_word}
 use Rattle.forest.proofs.PromiseLaws.{sound-T, sound_length}
 use Rattle.path.specs.Ways.{descend, Deep}
 use Rattle.path.specs.Levels.{extended}
-use Rattle.path.specs.Cores.{Ready, Of, Goes}
+use Rattle.path.specs.Cores.{Ready, Of, Goes, aim}
 use Rattle.path.specs.declared.Way.{Way}
 use Rattle.path.specs.declared.Way.TheVariants.{Key, First, Last}
 use Rattle.path.proofs.CursorWords.{extend_at}
@@ -83,11 +83,12 @@ module _ (ws : List ℕ) (t tree : ℕ) (y : Ready ws t tree) where
             let path-is : descend way 16 ws t (get_or ws (1 + tree) 0) ≡ path_of (tree_of p tree) (f (leaves (tree_of p tree))) = rw (root_is p o, q) g in
             x ∙ ap (λ (b : Cursor). extended b (descend way 16 ws t (get_or ws (1 + tree) 0))) e ∙ down_path way ∙ ap (cursor_at tree) path-is
 
-  pub goes-seek : (k : ℕ) (c r : Cursor) → (get_or ws (1 + tree) 0 ≡ 0 → ⊥) → c ≡ cursor_at tree [] → r ≡ extended c (descend (Key k) 16 ws t (get_or ws (1 + tree) 0)) → Goes (seek k) ws tree r
-  goes-seek k c r z e x = goes_down (seek k) refl (Key k) c r z (λ L Rs l. seek_path ws t k (15 - length Rs) L Rs l) e x
+  pub goes_way : (way : Way) (c r : Cursor) → (get_or ws (1 + tree) 0 ≡ 0 → ⊥) → c ≡ cursor_at tree [] → r ≡ extended c (descend way 16 ws t (get_or ws (1 + tree) 0)) → Goes (aim way) ws tree r
+  goes_way (Key k) c r z e x = goes_down (aim (Key k)) refl (Key k) c r z (λ L Rs l. seek_path ws t k (15 - length Rs) L Rs l) e x
+  goes_way First c r z e x = goes_down (aim First) refl First c r z (λ L Rs l. first_path ws t (15 - length Rs) L Rs l) e x
+  goes_way Last c r z e x = goes_down (aim Last) refl Last c r z (λ L Rs l. last_path ws t (15 - length Rs) L Rs l) e x
 
-  pub goes_first : (c r : Cursor) → (get_or ws (1 + tree) 0 ≡ 0 → ⊥) → c ≡ cursor_at tree [] → r ≡ extended c (descend First 16 ws t (get_or ws (1 + tree) 0)) → Goes first ws tree r
-  goes_first c r z e x = goes_down first refl First c r z (λ L Rs l. first_path ws t (15 - length Rs) L Rs l) e x
-
-  pub goes_last : (c r : Cursor) → (get_or ws (1 + tree) 0 ≡ 0 → ⊥) → c ≡ cursor_at tree [] → r ≡ extended c (descend Last 16 ws t (get_or ws (1 + tree) 0)) → Goes (λ L. prev L off) ws tree r
-  goes_last c r z e x = goes_down (λ L. prev L off) refl Last c r z (λ L Rs l. last_path ws t (15 - length Rs) L Rs l) e x
+pub aim_none : (way : Way) → aim way [] ≡ off
+aim_none (Key k) = refl
+aim_none First = refl
+aim_none Last = refl

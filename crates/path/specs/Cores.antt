@@ -5,9 +5,11 @@ use Rattle.forest.specs.Sizes.{most_trees, most_nodes, leaf_least}
 use Rattle.forest.specs.Pairs.{Item}
 use Rattle.forest.specs.Rows.{Row}
 use Rattle.forest.specs.Pools.{Pool, WellFormed, Sound, encode, tree_of}
-use Rattle.forest.specs.Cursors.{Path, Spot, leaves, Fits, pair_at, path_of, cursor_at, Stands, seek}
+use Rattle.forest.specs.Cursors.{Path, Spot, off, leaves, Fits, pair_at, path_of, cursor_at, Stands, first, seek, prev}
 use Rattle.forest.specs.declared.Cursor.{Cursor}
 use Rattle.path.specs.Ways.{base}
+use Rattle.path.specs.declared.Way.{Way}
+use Rattle.path.specs.declared.Way.TheVariants.{Key, First, Last}
 
 -- the words are sound, t is their number of trees, and `tree` is one of these
 pub record Ready (ws : List ℕ) (t tree : ℕ) : Type 0 where
@@ -32,6 +34,12 @@ pub record Standing (ws : List ℕ) (c : Cursor) : Type 0 where
 -- cursor d is that of the spot f in the leaf row of a tree
 pub record Goes (f : Row → Spot) (ws : List ℕ) (tree : ℕ) (d : Cursor) : Type 0 where
   pub to : (p : Pool) → Of ws p → d ≡ cursor_at tree (path_of (tree_of p tree) (f (leaves (tree_of p tree))))
+
+-- the spot that a way goes to
+abbrev pub aim : Way → Row → Spot
+aim (Key k) L = seek k L
+aim First L = first L
+aim Last L = prev L off
 
 -- what a look sees: a key and its value, or nothing
 abbrev pub Look : Type 0

@@ -9,7 +9,7 @@ ghost use Rattle.forest.specs.Slices.{KeysRise};
 ghost use Rattle.forest.specs.Cursors.{cursor_at, first, seek};
 ghost use Rattle.path.specs.Ways.{block_at, keys_of, turn_of, land_of, descend, foot_of, Deep};
 ghost use Rattle.path.specs.Levels.{pushed, extended, cut_at, right_branch, left_branch, Safe};
-ghost use Rattle.path.specs.Cores.{Goes, LeafIn, look_in, Ends, Looks};
+ghost use Rattle.path.specs.Cores.{Goes, aim, LeafIn, look_in, Ends, Looks};
 
 use forest::Cursor;
 
@@ -135,21 +135,14 @@ pub fn down(ws: &[u32], t: usize, way: Way, c: Cursor, node: u32, left: usize) -
 {
     let mut out = c;
     let mut n = node;
-    let mut k = left;
-    while 0 < k {
+    for _ in 0..left {
         let b = t + 16 * (n as usize) - 14;
-        let w = ws[b];
-        if 32 <= w {
-            let e = land(ws, b, way);
-            return push(out, n, e);
+        if 32 <= ws[b] {
+            return push(out, n, land(ws, b, way));
         }
         let i = turn(ws, b, way);
-        let l = out.size as usize;
-        out.nodes[l] = n;
-        out.places[l] = i as u32;
-        out.size = out.size + 1;
+        out = push(out, n, i);
         n = ws[b + 8 + i];
-        k -= 1;
     }
     out
 }
@@ -193,41 +186,41 @@ fn leaf_below(ws: &[u32], t: usize, way: Way, node: u32, left: usize) -> u32
     ensures { result ≡ foot_of way left ws.now t node }
 {
     let mut n = node;
-    let mut k = left;
-    while 0 < k {
+    for _ in 0..left {
         let b = t + 16 * (n as usize) - 14;
-        let w = ws[b];
-        if 32 <= w {
+        if 32 <= ws[b] {
             return n;
         }
         let i = turn(ws, b, way);
         n = ws[b + 8 + i];
-        k -= 1;
     }
     n
 }
 
 impl<'a> Tree<'a> {
-    // Go to a key, or where it would be put.
-    pub fn find(&self, key: u32) -> Cursor
-        ensures { Goes (seek key) self.now.words.now self.now.number result }
+    // Go down from the root; in an empty tree off the end.
+    fn go(&self, way: Way) -> Cursor
+        ensures { Goes (aim way) self.now.words.now self.now.number result }
     {
         let root = self.words[1 + self.number as usize];
         if root == 0 {
             return off_end(self.number);
         }
-        down(self.words, self.trees, Way::Key(key), off_end(self.number), root, 16)
+        down(self.words, self.trees, way, off_end(self.number), root, 16)
+    }
+
+    // Go to a key, or where it would be put.
+    pub fn find(&self, key: u32) -> Cursor
+        ensures { Goes (seek key) self.now.words.now self.now.number result }
+    {
+        self.go(Way::Key(key))
     }
 
     // Go to the first pair.
     pub fn first(&self) -> Cursor
         ensures { Goes first self.now.words.now self.now.number result }
     {
-        let root = self.words[1 + self.number as usize];
-        if root == 0 {
-            return off_end(self.number);
-        }
-        down(self.words, self.trees, Way::First, off_end(self.number), root, 16)
+        self.go(Way::First)
     }
 
     // The leaf where a key of a tree that is not empty is or would be put, and its place there; no cursor is made.

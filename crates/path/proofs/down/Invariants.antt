@@ -1,11 +1,6 @@
-use mathlib.Core.Path.{◌≡◌}
-use Prim.Native.Nat.{◌+◌, ◌≤◌}
-use Rattle.path.specs.Ways.{descend, Deep}
-use Rattle.path.specs.Levels.{extended}
+use Prim.Native.Nat.{◌-◌}
+use Rattle.path.proofs.Along.{WentDown}
 use Rattle.path.proofs.down.Given as goal
 
-abbrev pub invariant-loop-k : goal.invariant-loop-k
-invariant-loop-k l = Deep l.k l.ws l.t l.n × (l.out.size + l.k ≤ 16) × (extended l.out (descend l.way l.k l.ws l.t l.n) ≡ extended l.initial.out (descend l.way l.left l.ws l.t l.node))
-
-abbrev pub decreases-loop-k : goal.decreases-loop-k
-decreases-loop-k l = l.k
+abbrev pub invariant-loop : goal.invariant-loop
+invariant-loop l = WentDown l.way l.ws l.t l.initial.out l.node l.left l.out l.n (l.left - l.counter)

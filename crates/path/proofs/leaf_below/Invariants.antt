@@ -1,9 +1,6 @@
-use mathlib.Core.Path.{◌≡◌}
-use Rattle.path.specs.Ways.{foot_of, Deep}
+use Prim.Native.Nat.{◌-◌}
+use Rattle.path.proofs.Along.{WentBelow}
 use Rattle.path.proofs.leaf_below.Given as goal
 
-abbrev pub invariant-loop-k : goal.invariant-loop-k
-invariant-loop-k l = Deep l.k l.ws l.t l.n × (foot_of l.way l.k l.ws l.t l.n ≡ foot_of l.way l.left l.ws l.t l.node)
-
-abbrev pub decreases-loop-k : goal.decreases-loop-k
-decreases-loop-k l = l.k
+abbrev pub invariant-loop : goal.invariant-loop
+invariant-loop l = WentBelow l.way l.ws l.t l.node l.left l.n (l.left - l.counter)

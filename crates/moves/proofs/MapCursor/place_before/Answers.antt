@@ -3,10 +3,11 @@ use native.Mathlib.Omega.{arith}
 use Rattle.forest.specs.Cursors.{off, prev}
 use Rattle.moves.specs.Moves.{prev_leaf}
 use Rattle.path.proofs.Seats.{leafy}
-use Rattle.path.proofs.Roots.{trees_few, root-place, root_below, goes_empty, goes_last}
+use Rattle.path.proofs.Roots.{trees_few, root-place, root_below, goes_empty, goes_way}
 use Rattle.moves.proofs.Moving.{off_cursor, back_last, step_as, step_entry, prev_within, prev_beyond}
 use borrow.Author.Rules.{rules}
 use Rattle.moves.proofs.Held.{cursor_ready, cursor_stands, steps_tree}
+use Rattle.path.specs.declared.Way.TheVariants.{Last}
 use Rattle.moves.proofs.MapCursor.place_before.Goals as goal
 
 pub bounds-self-self : goal.bounds-self-self
@@ -25,7 +26,7 @@ down-requires c = record {
 
 pub returns-then-size-eq0 : goal.returns-then-size-eq0
 returns-then-size-eq0 c =
-    back_last c.args.self.words.now c.args.self.cursor _ c.if-size-eq0.true (goes_last c.args.self.words.now c.args.self.trees c.args.self.cursor.tree (cursor_ready c.args.self) c.args.self.cursor _ c.if-root-eq0.false (off_cursor c.args.self.words.now c.args.self.trees c.args.self.cursor (cursor_ready c.args.self) (cursor_stands c.args.self (search rules) (search rules)) c.if-size-eq0.true) c.down.ensures)
+    back_last c.args.self.words.now c.args.self.cursor _ c.if-size-eq0.true (goes_way c.args.self.words.now c.args.self.trees c.args.self.cursor.tree (cursor_ready c.args.self) Last c.args.self.cursor _ c.if-root-eq0.false (off_cursor c.args.self.words.now c.args.self.trees c.args.self.cursor (cursor_ready c.args.self) (cursor_stands c.args.self (search rules) (search rules)) c.if-size-eq0.true) c.down.ensures)
 
 pub bounds-self-size : goal.bounds-self-size
 bounds-self-size c =
