@@ -1,4 +1,4 @@
--- PROOFS. The words of a fresh pool, part by part, and what formatting answers
+-- PROOFS. The words of a fresh pool, part by part, and that they are sound
 use mathlib.Core.Path.{◌≡◌, refl, sym, ap, ◌∙◌}
 use mathlib.Core.List.{List, [], ◌∷◌, ◌++◌, append_assoc, map, reverse_aux}
 use mathlib.Core.Bool.{true}
@@ -10,7 +10,7 @@ use borrow.Rule.Slice.PartMut.{put_mid}
 use Rattle.forest.specs.Lists.{pad}
 use Rattle.forest.specs.Rows.{Tree}
 use Rattle.forest.specs.Pools.{in_trees, node_words, nodes_from, root, encode, fresh, fresh_stack, formatted, format_words, Sound}
-use Rattle.forest.proofs.CountLaws.{format_in, fresh_sound}
+use Rattle.forest.proofs.CountLaws.{fresh_sound}
 use Rattle.pool.specs.Stores.{patched, down}
 use Rattle.pool.proofs.Patches.{copied_in, copied_back, zeroed, set-patched, begun, patched-length}
 
@@ -142,10 +142,6 @@ module _ (ws : List ℕ) (T N : ℕ) (long : length ws ≡ T + 17 * N + 3) where
             let s6 : take (length w6) w6 ≡ p5 ++ down N =
             next w5 w6 p5 (down N) (T + 3 + 16 * N) (length w6) e6 (sym l5) (omega (arith, long5)) (omega (arith, long6, down-length N)) s5 in
             sym (take-length w6) ∙ s6 ∙ sym (fresh_words T N)
-
--- the length that the tests let through
-pub formatted-fits : (T N len : ℕ) → formatted T N len ≡ true → len ≡ T + 17 * N + 3
-formatted-fits T N len h = (format_in T N len h).3
 
 -- formatted words are sound, whatever the minimum of a leaf
 pub format_sound : (m T N : ℕ) (ws : List ℕ) → formatted T N (length ws) ≡ true → Sound m (format_words T N ws)
