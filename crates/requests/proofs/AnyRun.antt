@@ -1,8 +1,8 @@
 -- PROOFS. Every delivery has a run: each stage has an outcome, and fewer turns are left. So the premise of run-replay is met
-use mathlib.Core.Path.{◌≡◌, refl, sym, ◌∙◌}
+use mathlib.Core.Path.{◌≡◌, refl, sym, ap, ◌∙◌}
 use mathlib.Core.List.{List, [], ◌++◌}
 use mathlib.Core.Option.{Option, none, some}
-use Prim.Native.Nat.{ℕ, zero, suc, ◌-◌, ◌≤◌, min}
+use Prim.Native.Nat.{ℕ, zero, suc, ◌≤◌, min}
 use native.Mathlib.Omega.{arith}
 use lib.Dec.{ltb}
 use lib.ListN.{length, take, drop, length-replicate}
@@ -21,7 +21,8 @@ use Rattle.requests.specs.declared.Turn.{Turn}
 use Rattle.requests.specs.Replay.{word_at, request, replay}
 use Rattle.requests.specs.Turns.{sized_by, room, wants_of, goes, stops, asking, after_kind, after_format, after_count, Heeds, Judged, Turned, rank}
 use Rattle.requests.specs.Runs.{Run, ended, turned}
-use Rattle.requests.proofs.Falling.{sizes_judged, request_judged, turn_early, turn_whole}
+use Rattle.requests.proofs.Judging.{lent, back, behind}
+use Rattle.requests.proofs.Falling.{turned_falls}
 use Rattle.requests.proofs.Whole.{run-replay}
 
 -- formatting keeps the number of words
@@ -60,11 +61,17 @@ judges Sizes b ws =
     let T = word_at b 0 in
     let N = word_at b 4 in
     let n = min (sized_by b) (length ws) in
+    let part = lent ws (sized_by b) n refl in
     let v = format_words T N (take n ws) in
+    let long = format_length T N (take n ws) in
     record {
       words = v ++ drop n ws;
       turn = after_format (sized_by b) (answer_of (format_answer T N (take n ws)));
-      judged = sizes_judged b ws v T N n _ _ refl refl refl (format_length T N (take n ws)) refl refl refl;
+      judged = record {
+        turn = ap (λ (x : List ℕ). after_format (sized_by b) (answer_of (format_answer T N x))) part;
+        words = back ws (sized_by b) n refl v long ∙ ap (format_words T N) part;
+        others = behind ws (sized_by b) n refl v long;
+      };
     }
 judges (Count words) b ws = record { words = ws; turn = after_count words b; judged = (refl, refl) }
 judges (Request words more) b ws =
@@ -73,7 +80,12 @@ judges (Request words more) b ws =
     record {
       words = h.words ++ drop n ws;
       turn = record { stage = asking words more; said = Some h.answer };
-      judged = request_judged b ws h.words words more n _ _ _ _ h.answer _ refl refl refl refl refl h.long h.heeds refl;
+      judged = record {
+        answer = h.answer;
+        turn = refl;
+        heeds = rw (back ws words n refl h.words h.long, ← (lent ws words n refl)) h.heeds;
+        others = behind ws words n refl h.words h.long;
+      };
     }
 judges Stopped b ws = record { words = ws; turn = goes Stopped; judged = (refl, refl) }
 
@@ -81,14 +93,21 @@ judges Stopped b ws = record { words = ws; turn = goes Stopped; judged = (refl, 
 record Turns (s : Stage) (b ws : List ℕ) : Type 0 where
   words : List ℕ
   turn : Turn
-  held : Turned s b ws words turn × (rank turn.stage ≤ rank s - 1)
+  held : Turned s b ws words turn
 
 turns : (s : Stage) (b ws : List ℕ) → Turns s b ws
 turns s b ws = elim (test (ltb (length b) (wants_of s))) [
-  | is e ↦ record { words = ws; turn = stops 7; held = turn_early s b ws ws (stops 7) (wants_of s) refl (ltb-true _ _ e) refl refl }
+  | is e ↦
+      let early = ltb-true (length b) (wants_of s) e in
+      record { words = ws; turn = stops 7; held = record { early_turn = λ _. refl; early_words = λ _. refl; whole = λ z. absurd (omega arith) } }
   | isnt e ↦
+      let all = ltb-false (length b) (wants_of s) e in
       let j = judges s b ws in
-      record { words = j.words; turn = j.turn; held = turn_whole s b ws j.words j.turn (wants_of s) refl s refl (ltb-false _ _ e) j.judged }
+      record {
+        words = j.words;
+        turn = j.turn;
+        held = record { early_turn = λ z. absurd (omega arith); early_words = λ z. absurd (omega arith); whole = λ _. j.judged };
+      }
 ]
 
 -- turn by turn, with at most n of them left
@@ -107,8 +126,8 @@ writes : (n : ℕ) (s : Stage) (ws b : List ℕ) → rank s ≤ n → Writes s w
 writes zero s ws b h = rw (spent s h) (record { text = []; run = ended })
 writes (suc n) s ws b h =
     let t = turns s (take (wants_of s) b) ws in
-    let w = writes n t.turn.stage t.words (drop (wants_of s) b) (omega (arith, t.held.1)) in
-    record { text = _; run = turned t.held.0 w.run }
+    let w = writes n t.turn.stage t.words (drop (wants_of s) b) (omega (arith, turned_falls s _ ws t.words t.turn t.held)) in
+    record { text = _; run = turned t.held w.run }
 
 -- a delivery in room for the largest pool has a run, and it writes the replay of its bytes
 pub any_run : (ws b : List ℕ) → room ≤ length ws → Run Kind ws b (replay b)

@@ -1,48 +1,22 @@
--- PROOFS. A turn judged: what a stage's function answers is what the turn is held to, and fewer turns are left
-use mathlib.Core.Path.{◌≡◌, ap, ◌∙◌}
-use mathlib.Core.List.{List, ◌++◌}
-use Prim.Native.Nat.{ℕ, zero, suc, ◌+◌, ◌-◌, ◌≤◌, ◌<◌, min}
+-- PROOFS. A turn leaves fewer turns, whatever it has read
+use mathlib.Core.Path.{◌≡◌}
+use mathlib.Core.List.{List}
+use Prim.Native.Nat.{ℕ, zero, suc, ◌+◌, ◌-◌, ◌≤◌, ◌<◌}
 use native.Mathlib.Omega.{arith}
 use lib.Dec.{ltb, leb, eqb}
-use lib.ListN.{length, take, drop}
+use lib.ListN.{length, take}
 use borrow.Author.Tests.{ltb-true, ltb-false, leb-true}
 use Rattle.forest.specs.declared.Answer.{Answer}
-use Rattle.forest.specs.declared.Reply.{Reply}
 use Rattle.forest.specs.Answers.{answer_of}
-use Rattle.forest.specs.Pools.{format_words, format_answer}
+use Rattle.forest.specs.Pools.{format_answer}
 use Rattle.forest.proofs.ListLaws.{test, is, isnt}
 use Rattle.requests.specs.declared.Stage.{Stage}
 use Rattle.requests.specs.declared.Stage.TheVariants.{Kind, Sizes, Count, Request, Stopped}
-use Rattle.std.specs.Prelude.{Some}
 use Rattle.requests.specs.declared.Turn.{Turn}
-use Rattle.requests.specs.Replay.{most_requests, word_at, sized, asked}
-use Rattle.requests.specs.Turns.{sized_by, wants_of, stops, asking, after_kind, after_format, after_count, Heeds, Sized, Requested, Judged, Turned, rank}
-use Rattle.requests.proofs.Judging.{lent, back, behind}
+use Rattle.requests.specs.Replay.{most_requests, word_at}
+use Rattle.requests.specs.Turns.{sized_by, wants_of, asking, after_kind, after_format, after_count, Judged, Turned, rank}
 
--- the pool's part is formatted: n words of s go out, and come back as v
-pub sizes_judged : (b s v : List ℕ) (T N n : ℕ) (a : Reply) (r : Turn) →
-    T ≡ word_at b 0 → N ≡ word_at b 4 → n ≡ min (sized T N) (length s) → length v ≡ length (take n s) →
-    v ≡ format_words T N (take n s) → a ≡ format_answer T N (take n s) → r ≡ after_format (sized T N) (answer_of a) → Sized b s (v ++ drop n s) r
-sizes_judged b s v T N n a r p q e k f g h =
-    let l = lent s (sized T N) n e in
-    record {
-      turn = rw (← p, ← q) (h ∙ ap (λ (x : Reply). after_format (sized T N) (answer_of x)) (g ∙ ap (format_answer T N) l));
-      words = rw (← p, ← q) (back s (sized T N) n e v k ∙ f ∙ ap (format_words T N) l);
-      others = rw (← p, ← q) (behind s (sized T N) n e v k);
-    }
-
--- a request is heeded on the pool's part
-pub request_judged : (b s v : List ℕ) (words more n kind tree key value : ℕ) (a : Answer) (next : Stage) →
-    kind ≡ word_at b 0 → tree ≡ word_at b 4 → key ≡ word_at b 8 → value ≡ word_at b 12 →
-    n ≡ min words (length s) → length v ≡ length (take n s) → Heeds (asked kind tree key value) (take n s) v a → next ≡ asking words more →
-    Requested words more b s (v ++ drop n s) (record { stage = next; said = Some a })
-request_judged b s v words more n kind tree key value a next p q o t e k h g = record {
-  answer = a;
-  turn = ap (λ x. record { stage = x; said = Some a }) g;
-  heeds = rw (← p, ← q, ← o, ← t, back s words n e v k, ← (lent s words n e)) h;
-  others = behind s words n e v k;
-}
-
+-- after what a stage has read whole
 rank-asking : (words n : ℕ) → rank (asking words n) ≤ n
 rank-asking words zero = omega arith
 rank-asking words (suc n) = omega arith
@@ -69,20 +43,7 @@ judged_falls (Count words) b before after r j = rw j.0 (omega (arith, count_fall
 judged_falls (Request words more) b before after r j = rw j.turn (omega (arith, rank-asking words more))
 judged_falls Stopped b before after r j = rw j.0 (omega arith)
 
--- w is what the stage wants
-module _ (s : Stage) (b before after : List ℕ) (r : Turn) (w : ℕ) (e : w ≡ wants_of s) where
-  pub turn_early : length b < w → r ≡ stops 7 → after ≡ before → Turned s b before after r × (rank r.stage ≤ rank s - 1)
-  turn_early h q k = (
-    record { early_turn = λ z. q; early_words = λ z. k; whole = λ z. absurd (omega arith) },
-    rw q (omega arith),
-  )
-
-  pub turn_whole : (t : Stage) → s ≡ t → w ≤ length b → Judged t b before after r → Turned s b before after r × (rank r.stage ≤ rank s - 1)
-  turn_whole t q h j = (
-    record { early_turn = λ z. absurd (omega arith); early_words = λ z. absurd (omega arith); whole = λ z. rw q j },
-    rw q (judged_falls t b before after r j),
-  )
-
+-- after any turn
 pub turned_falls : (s : Stage) (b before after : List ℕ) (r : Turn) → Turned s b before after r → rank r.stage ≤ rank s - 1
 turned_falls s b before after r t = elim (test (ltb (length b) (wants_of s))) [
   | is e ↦ rw (t.early_turn (ltb-true _ _ e)) (omega arith)

@@ -1,7 +1,7 @@
 // Document 01's replay: a delivery of little-endian words, read and judged stage by stage, a line of text for each request.
 #![tactic(auto)]
 
-ghost use Rattle.std.specs.Prelude.{◌≡◌, ◌++◌, ◌+◌, ◌-◌, ◌*◌, ◌^◌, ◌≤◌, ◌<◌, min, length, take, drop};
+ghost use Rattle.std.specs.Prelude.{◌≡◌, ◌++◌, ◌+◌, ◌-◌, ◌^◌, ◌≤◌, ◌<◌, length, take, drop};
 ghost use Rattle.forest.specs.Answers.{answer_of};
 ghost use Rattle.requests.specs.Text.{digits_of, line, lines};
 ghost use Rattle.requests.specs.Replay.{word_at, asked, faulted, Names};
@@ -137,10 +137,7 @@ fn word(b: &[u8], i: usize) -> u32
 fn go(stage: Stage) -> Turn
     ensures { result ≡ goes stage }
 {
-    Turn {
-        stage: stage,
-        said: None,
-    }
+    Turn { stage, said: None }
 }
 
 // That it is no delivery is said, and nothing more is read.
