@@ -13,7 +13,7 @@ use lib.Dec.{leb}
 use borrow.Author.Tests.{eq-eqb, ne_eqb, le-leb, lt-leb, leb-true}
 use Rattle.forest.proofs.ListLaws.{is, isnt, test}
 use Rattle.walk.specs.declared.Walked.{Walked}
-use Rattle.walk.specs.Marks.{has, newly}
+use Rattle.walk.specs.Marks.{has, mark}
 use Rattle.walk.specs.Walks.{zeros, place, place_of, meets, walk}
 use Rattle.walk.proofs.Laws.{not_there, Met, met}
 use Rattle.sound.specs.Checks.{levels, wide, tree_walk, trees, free_walk, all_marked, framed, stacked, filled, checked}
@@ -92,15 +92,15 @@ module _ (ws : List ℕ) (T N r i : ℕ) (ms : List ℕ) where
       pub frees_no : meets N ms n ≡ false → free_walk ws T N (r - i) (s + i) ms ≡ None
       frees_no m = rw (one_more h, ← g, m)
 
-      module _ (b : ℕ) (x : List ℕ) (p : Some b ≡ place_of T N n) (q : Some x ≡ newly ms n) where
-        may : Met T N n ms b x
-        may = met T N n ms b x p q
+      module _ (b : ℕ) (p : Some b ≡ place_of T N n) (f : has ms n ≡ false) where
+        may : Met T N n ms b
+        may = met T N n ms b p f
 
         pub frees-full : zeros ws b 16 ≡ false → free_walk ws T N (r - i) (s + i) ms ≡ None
         frees-full z = rw (one_more h, ← g, may.may, may.there, z)
 
-        pub frees_on : zeros ws b 16 ≡ true → free_walk ws T N (r - i) (s + i) ms ≡ free_walk ws T N (r - (i + 1)) (s + (i + 1)) x
-        frees_on z = let a : s + (i + 1) ≡ suc (s + i) = omega arith in rw (one_more h, ← g, may.may, may.there, z, may.marks, a)
+        pub frees_on : zeros ws b 16 ≡ true → (x : List ℕ) → x ≡ mark ms n → free_walk ws T N (r - i) (s + i) ms ≡ free_walk ws T N (r - (i + 1)) (s + (i + 1)) x
+        frees_on z x m = let a : s + (i + 1) ≡ suc (s + i) = omega arith in rw (one_more h, ← g, may.may, may.there, z, ← m, a)
 
 -- the numbers 1 to n, one by one
 and_swap : (x y z : Bool) → x && (y && z) ≡ y && (x && z)

@@ -14,7 +14,7 @@ use lib.Pow.{shl_exact}
 use lib.Dec.{leb, eqb}
 use borrow.Author.Tests.{le-leb, lt-leb, leb-true}
 use Rattle.std.proofs.Common.{Some, None}
-use Rattle.walk.specs.Marks.{bit, has, mark, newly}
+use Rattle.walk.specs.Marks.{bit, has, mark}
 use Rattle.walk.specs.Walks.{lower, place, place_of, meets, items, zeros, climbs, ends, node_fits, links, leaf_fits, leaf_items, leaf_walk}
 use Rattle.forest.proofs.ListLaws.{is, isnt, test, both}
 use Rattle.walk.proofs.WalkLaws.{lower_some}
@@ -26,13 +26,21 @@ pub zeros-all : (ws : List ℕ) (a r : ℕ) → a + r ≤ length ws → list_all
 zeros-all ws a zero h = refl
 zeros-all ws a (suc r) h = let l : a < length ws = omega arith in rw (drop-cons ws a 0 l) (ap (eqb (get_or ws a 0) 0 &&◌) (zeros-all ws (suc a) r (omega arith)))
 
-pub slice_length : (ws : List ℕ) (a r : ℕ) → a + r ≤ length ws → length (take (a + r - a) (drop a ws)) ≡ r
+slice_length : (ws : List ℕ) (a r : ℕ) → a + r ≤ length ws → length (take (a + r - a) (drop a ws)) ≡ r
 slice_length ws a r h = grind (arith, common_steps)
 
-module _ (ws : List ℕ) (a r i : ℕ) where
-  pub slice_word : i < r → get_or (take (a + r - a) (drop a ws)) i 0 ≡ get_or ws (a + i) 0
-  slice_word h = let e : a + r - a ≡ r = omega arith in rw (e, get_or-take r (drop a ws) i 0 h, get_or-drop a ws i 0)
+-- at the i-th turn over a slice of r words
+pub record Turn (ws : List ℕ) (a r i : ℕ) : Type 0 where
+  pub more : i < r
+  pub word : get_or (take (a + r - a) (drop a ws)) i 0 ≡ get_or ws (a + i) 0
 
+pub slice_turn : (ws : List ℕ) (a r i : ℕ) → a + r ≤ length ws → i < length (take (a + r - a) (drop a ws)) → Turn ws a r i
+slice_turn ws a r i h t =
+    let l : i < r = omega (arith, slice_length ws a r h) in
+    let e : a + r - a ≡ r = omega arith in
+    record { more = l; word = rw (e, get_or-take r (drop a ws) i 0 l, get_or-drop a ws i 0) }
+
+module _ (ws : List ℕ) (a r i : ℕ) where
   pub climbs_on : (q k : ℕ) → i < r → k ≡ get_or ws (a + i) 0 → q ≤ k →
       climbs q (items ws (a + i) (a + 7 + i) (r - i)) ≡ climbs (k + 1) (items ws (a + (i + 1)) (a + 7 + (i + 1)) (r - (i + 1)))
   climbs_on q k h d e =
@@ -74,12 +82,9 @@ marked true true = refl
 marked true false = refl
 marked false y = refl
 
-pub met_before : (N n : ℕ) (ms : List ℕ) → None ≡ newly ms n → meets N ms n ≡ false
+pub met_before : (N n : ℕ) (ms : List ℕ) → has ms n ≡ true → meets N ms n ≡ false
 unfolding meets
-met_before N n ms p = elim (test (has ms n)) [
-  | is f ↦ rw f (marked (leb 1 n) (leb n N))
-  | isnt f ↦ let g : Some (mark ms n) ≡ None = sym (rw f) ∙ sym p in cc
-]
+met_before N n ms f = rw f (marked (leb 1 n) (leb n N))
 
 module _ (T N n : ℕ) (ms : List ℕ) where
   pub not_there : None ≡ place_of T N n → meets N ms n ≡ false
@@ -89,21 +94,16 @@ module _ (T N n : ℕ) (ms : List ℕ) where
     | isnt f ↦ outside (leb 1 n) (leb n N) (not (has ms n)) f
   ]
 
-  -- b is where its words start, seen the marks with its own
-  pub record Met (b : ℕ) (seen : List ℕ) : Type 0 where
+  pub record Met (b : ℕ) : Type 0 where
     pub may : meets N ms n ≡ true
     pub there : place T n ≡ b
-    pub marks : mark ms n ≡ seen
 
-  pub met : (b : ℕ) (seen : List ℕ) → Some b ≡ place_of T N n → Some seen ≡ newly ms n → Met b seen
+  pub met : (b : ℕ) → Some b ≡ place_of T N n → has ms n ≡ false → Met b
   unfolding meets
-  met b seen p m =
+  met b p f =
       let r = cond_some (leb 1 n && leb n N) (place T n) b (sym p) in
       let s = both (leb 1 n) (leb n N) r.0 in
-      elim (test (has ms n)) [
-        | is f ↦ let g : None ≡ Some seen = sym (rw f) ∙ sym m in cc
-        | isnt f ↦ let g : Some (mark ms n) ≡ Some seen = sym (rw f) ∙ sym m in record { may = rw (s.0, s.1, f); there = r.1; marks = cc }
-      ]
+      record { may = rw (s.0, s.1, f); there = r.1 }
 
 -- Nodes: how many links
 module _ (ws : List ℕ) (b a t l c : ℕ) where

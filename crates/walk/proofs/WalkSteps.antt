@@ -1,9 +1,9 @@
 -- Laws that the proof of the walk cites: what it is at a node, and the loop over the children from the k-th on
 use Rattle.std.proofs.Common.{Option, Some, None, option_and_then}
 use Rattle.forest.specs.Sizes.{leaf_least}
-use mathlib.Core.Path.{◌≡◌, refl, sym, ◌∙◌}
+use mathlib.Core.Path.{◌≡◌, sym, ◌∙◌}
 use mathlib.Core.List.{List}
-use mathlib.Core.Bool.{Bool, true, false, cond}
+use mathlib.Core.Bool.{Bool, false, cond}
 use Prim.Native.Nat.{ℕ, zero, suc, ◌+◌, ◌-◌, ◌≤◌, ◌<◌}
 use native.Mathlib.Omega.{arith}
 use lib.ListN.{get_or}
@@ -11,7 +11,7 @@ use lib.Dec.{eqb}
 use borrow.Author.Tests.{eqb-true, eqb-false, eq-eqb, ne_eqb}
 use Rattle.forest.proofs.ListLaws.{is, isnt, test}
 use Rattle.walk.specs.declared.Walked.{Walked}
-use Rattle.walk.specs.Marks.{newly}
+use Rattle.walk.specs.Marks.{has, mark}
 use Rattle.walk.specs.Walks.{lastly, lower, items, place_of, meets, leaf_walk, links, inner_fits, at_end, rest, others, inner_walk, walk}
 use Rattle.walk.proofs.WalkLaws.{lower_some}
 use Rattle.walk.proofs.Laws.{Met, met, links_none, Fitting, links_some}
@@ -32,12 +32,12 @@ walk_no ws T N (suc h) e n ms q f = rw f
 
 module _ (ws : List ℕ) (T N h : ℕ) (e : Bool) (n : ℕ) (ms : List ℕ) (q : ℕ) where
   -- b is where its words start, seen the marks with its own
-  module _ (b : ℕ) (seen : List ℕ) (p : Some b ≡ place_of T N n) (m : Some seen ≡ newly ms n) where
-    may : Met T N n ms b seen
-    may = met T N n ms b seen p m
+  module _ (b : ℕ) (seen : List ℕ) (p : Some b ≡ place_of T N n) (f : has ms n ≡ false) (m : seen ≡ mark ms n) where
+    may : Met T N n ms b
+    may = met T N n ms b p f
 
     pub walk_leaf : h ≡ 0 → walk ws T N leaf_least h e n ms q ≡ leaf_walk ws leaf_least b e seen q
-    walk_leaf z = rw (z, may.may, may.there, may.marks)
+    walk_leaf z = rw (z, may.may, may.there, ← m)
 
     module _ (z : h ≡ 0 → ⊥) where
       level : h ≡ suc (h - 1)
@@ -59,7 +59,7 @@ module _ (ws : List ℕ) (T N h : ℕ) (e : Bool) (n : ℕ) (ms : List ℕ) (q :
 
         pub walk_first : None ≡ walk ws T N leaf_least (h - 1) v (get_or ws (b + 8) 0) seen q → walk ws T N leaf_least h e n ms q ≡ None
         unfolding inner_walk inner_fits
-        walk_first w = rw (level, may.may, may.there, fit.fits, may.marks, edge, ← w)
+        walk_first w = rw (level, may.may, may.there, fit.fits, ← m, edge, ← w)
 
         pub walk_rest : (x : Walked) → Some x ≡ walk ws T N leaf_least (h - 1) v (get_or ws (b + 8) 0) seen q → walk ws T N leaf_least h e n ms q ≡ left_of ws T N h e b c 1 x
         unfolding inner_walk inner_fits left_of
@@ -67,7 +67,7 @@ module _ (ws : List ℕ) (T N h : ℕ) (e : Bool) (n : ℕ) (ms : List ℕ) (q :
             let s : get_or ws b 0 - 16 ≡ c - 1 = omega (arith, fit.same) in
             let d : suc (h - 1) - 1 ≡ h - 1 = omega arith in
             let o : b + 8 + 1 ≡ b + 9 = omega arith in
-            rw (level, may.may, may.there, fit.fits, may.marks, edge, ← w, s, d, o)
+            rw (level, may.may, may.there, fit.fits, ← m, edge, ← w, s, d, o)
 
 -- the loop over the children: v is the edge of the next one
 module _ (ws : List ℕ) (T N h : ℕ) (e : Bool) (b c k : ℕ) (x : Walked) where
