@@ -1,7 +1,7 @@
 // The cursor table of document 01, run: tree 0 is B, tree 1 has one pair, tree 2 is empty.
 #![tactic(auto)]
 
-use forest::{Cursor, Moved};
+use forest::{Answer, Cursor, Moved, Reply};
 use std::io;
 
 // T = 3, N = 4: B is 10, 20, 30, 35 in node 1 and 40, 50, 60, 70 in node 2 under node 3; tree 1 is node 4.
@@ -35,8 +35,8 @@ fn words(rt: &impl Print, a: [u32; 16]) -> io::Result<()> {
     Ok(())
 }
 
-fn answer(rt: &impl Print, r: forest::Reply) -> io::Result<()> {
-    let a = forest::numbered(r);
+fn answer(rt: &impl Print, r: Reply) -> io::Result<()> {
+    let a = Answer::from(r);
     number(rt, a.number)?;
     flag(rt, a.found)?;
     number(rt, a.key)?;
@@ -60,7 +60,7 @@ fn show(rt: &impl Print, m: Moved) -> io::Result<()> {
     println!(rt)
 }
 
-fn value(rt: &impl Print, r: forest::Reply) -> io::Result<()> {
+fn value(rt: &impl Print, r: Reply) -> io::Result<()> {
     answer(rt, r)?;
     println!(rt)
 }

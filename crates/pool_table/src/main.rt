@@ -117,7 +117,7 @@ fn judge(rt: &(impl Input + Print), kept: &[u32; 1024], name: u8) -> io::Result<
 // Formats some words, and judges them then.
 fn say_format(rt: &(impl Input + Print), ws: &mut [u32], trees: u32, nodes: u32) -> io::Result<()> {
     let reply = pool::format(ws, trees, nodes);
-    let number = forest::numbered(reply).number;
+    let number = forest::Answer::from(reply).number;
     print!(rt; "{number}    ")?;
     say(rt, sound::check(ws))
 }

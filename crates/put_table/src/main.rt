@@ -3,6 +3,7 @@
 
 ghost use Rattle.std.specs.Prelude.{◌<◌};
 
+use forest::{Answer, Refusal, Reply};
 use std::io;
 
 fn number(rt: &impl Print, n: u32) -> io::Result<()> {
@@ -15,8 +16,8 @@ fn head(rt: &impl Print, name: &[u8]) -> io::Result<()> {
 }
 
 // A line: number, found as 0 or 1, value.
-fn answer(rt: &impl Print, r: forest::Reply) -> io::Result<()> {
-    let a = forest::numbered(r);
+fn answer(rt: &impl Print, r: Reply) -> io::Result<()> {
+    let a = Answer::from(r);
     number(rt, a.number)?;
     if a.found {
         print!(rt; "1 ")?;
@@ -61,9 +62,7 @@ fn tree_a(rt: &impl Print, name: &[u8], ws: &mut [u32], nodes: u32) -> io::Resul
 
 // A put is refused for want of nodes.
 fn full(ws: &mut [u32], key: u32, value: u32) -> bool {
-    let a = forest::numbered(map::put(ws, 0, key, value));
-    let n = a.number;
-    n == 4
+    matches!(map::put(ws, 0, key, value), Err(Refusal::NoRoom))
 }
 
 // Keys from `from` on, each `step` further, modulo 101, until one is refused: how many came.

@@ -186,7 +186,7 @@ fn made(ws: &mut [u32], call: u32, r: &[u32; 37]) -> Moved {
 fn compared(ws: &[u32], m: Moved, r: &[u32; 37]) -> Verdict {
     let reply = m.reply;
     let back = m.cursor;
-    if !same_answer(forest::numbered(reply), r) {
+    if !same_answer(reply.into(), r) {
         return Verdict::Answer;
     }
     if !same_cursor(back, cursor(r, 24)) {

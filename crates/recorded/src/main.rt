@@ -190,8 +190,7 @@ fn closed(rt: &(impl Input + Print), ws: &[u32], list: u32, calls: Tally) -> Tal
 
 // The words become a fresh pool, where T and N are in range.
 fn formatted(ws: &mut [u32], trees: u32, nodes: u32) -> bool {
-    let fresh = forest::numbered(pool::format(ws, trees, nodes));
-    fresh.number == 0
+    pool::format(ws, trees, nodes).is_ok()
 }
 
 // The line of a list whose pool can't be made.

@@ -4,7 +4,7 @@
 
 ghost use Rattle.std.specs.Prelude.{◌<◌, ◌≤◌};
 
-use forest::Cursor;
+use forest::{Answer, Cursor, Moved, Reply};
 use std::io;
 
 fn number(rt: &impl Print, n: u32) -> io::Result<()> {
@@ -17,8 +17,8 @@ fn head(rt: &impl Print, name: &[u8]) -> io::Result<()> {
 }
 
 // Number, found as 0 or 1, key, value.
-fn answer(rt: &impl Print, r: forest::Reply) -> io::Result<()> {
-    let a = forest::numbered(r);
+fn answer(rt: &impl Print, r: Reply) -> io::Result<()> {
+    let a = Answer::from(r);
     number(rt, a.number)?;
     if a.found {
         print!(rt; "1 ")?;
@@ -48,7 +48,7 @@ fn place(rt: &impl Print, c: Cursor) -> io::Result<()> {
 }
 
 // An answer, and where the cursor is.
-fn moved(rt: &impl Print, m: forest::Moved) -> io::Result<Cursor> {
+fn moved(rt: &impl Print, m: Moved) -> io::Result<Cursor> {
     let r = m.reply;
     let c = m.cursor;
     answer(rt, r)?;

@@ -180,7 +180,7 @@ fn part(words: usize, long: usize) -> usize
 fn after_format(words: usize, reply: Reply) -> Turn
     ensures { result ≡ after_format words (answer_of reply) }
 {
-    let answer = forest::numbered(reply);
+    let answer = Answer::from(reply);
     if answer.number == 0 {
         return go(Stage::Count(words));
     }
@@ -219,13 +219,13 @@ fn answer_request(ws: &mut [u32], kind: u32, tree: u32, key: u32, value: u32) ->
     ensures { Heeds (asked kind tree key value) ws.old ws.new result }
 {
     if kind == PUT {
-        return forest::numbered(map::put(ws, tree, key, value));
+        return map::put(ws, tree, key, value).into();
     }
     if kind == REMOVE {
-        return forest::numbered(map::remove(ws, tree, key));
+        return map::remove(ws, tree, key).into();
     }
     if kind == GET {
-        return forest::numbered(map::get(ws, tree, key));
+        return map::get(ws, tree, key).into();
     }
     refusal(UNKNOWN)
 }
