@@ -9,13 +9,12 @@ use native.Mathlib.Omega.{arith}
 use lib.ListN.{length, get_elem?}
 use lib.Dec.{leb}
 use borrow.Author.Tests.{lt-ltb, le-ltb}
+use Rattle.std.specs.Prelude.{Err}
 use Rattle.forest.specs.Pairs.{Item}
 use Rattle.forest.specs.Rows.{Node, Row, Tree}
 use Rattle.forest.specs.declared.Cursor.{Cursor}
 use Rattle.forest.specs.declared.Refusal.TheVariants.{Unsound}
-use Rattle.forest.specs.declared.Reply.{Reply}
-use Rattle.forest.specs.declared.Reply.TheVariants.{Refused}
-use Rattle.forest.specs.Answers.{told, kept}
+use Rattle.forest.specs.Answers.{told, kept, Reply}
 use Rattle.forest.specs.Runs.{finally, replies, own_calls, own_replies, AllKept}
 use Rattle.forest.specs.Pools.{Pool, WellFormed, Sound, encode, get, refused, call, blank, shape, AllDone}
 use Rattle.forest.specs.Cursors.{leaves, pair_at, first, cursor_at, Move, to_first, to_key, to_remove, blocked, move_from, move}
@@ -95,7 +94,7 @@ module _ (m : ℕ) (lo : 1 ≤ m) (hi : m ≤ 4) where
   made_answer (led {c = c} k) p w e = first-least c p ∙ k.sound_answer p w e
 
   -- on words that are no pool it is refused for that, and changes nothing
-  pub made_unsound : {a : Act} {ws us : List ℕ} {r : Reply} → Made m a ws us r → (Sound m ws → ⊥) → (us ≡ ws) × (r ≡ Refused Unsound)
+  pub made_unsound : {a : Act} {ws us : List ℕ} {r : Reply} → Made m a ws us r → (Sound m ws → ⊥) → (us ≡ ws) × (r ≡ Err Unsound)
   made_unsound (by_key k) n = (k.unsound_words n, k.unsound_answer n)
   made_unsound (took k t) n = (k.unsound_words n, k.unsound_answer n)
   made_unsound (sought k) n = (k.unsound_words n, k.unsound_answer n)

@@ -9,8 +9,7 @@ use native.Mathlib.Omega.{arith}
 use lib.ListN.{length}
 use Rattle.forest.specs.Pairs.{Item}
 use Rattle.forest.specs.declared.Cursor.{Cursor}
-use Rattle.forest.specs.declared.Reply.{Reply}
-use Rattle.forest.specs.Answers.{kept}
+use Rattle.forest.specs.Answers.{kept, Reply}
 use Rattle.forest.specs.Pools.{Pool, WellFormed, Sound, encode, fresh, call, formatted, format_words, format_answer}
 use Rattle.forest.specs.Cursors.{pair_at, Move, to_first, to_key, to_next, to_prev, to_settled, to_remove, blocked, move_from, move}
 use Rattle.forest.specs.Promises.{Moves}

@@ -6,12 +6,11 @@ use Prim.Native.Nat.{ℕ, ◌+◌, ◌*◌, ◌<◌}
 use native.Mathlib.Omega.{arith}
 use lib.ListN.{length, get_or}
 use lib.Seq.{get_or-drop}
+use Rattle.std.specs.Prelude.{Err}
 use Rattle.forest.specs.Sizes.{leaf_least}
-use Rattle.forest.specs.declared.Reply.{Reply}
-use Rattle.forest.specs.declared.Reply.TheVariants.{Value, Pair, Refused}
 use Rattle.forest.specs.declared.Refusal.TheVariants.{NoRoom}
 use Rattle.forest.specs.declared.Cursor.{Cursor}
-use Rattle.forest.specs.Answers.{kept, answer_of}
+use Rattle.forest.specs.Answers.{kept, answer_of, Reply, pair, value}
 use Rattle.forest.specs.Pools.{Pool, WellFormed, encode, fresh, Call, put, remove, get, call, tree_of, used, run}
 use Rattle.forest.specs.Trees.{need}
 use Rattle.forest.specs.Cursors.{Move, to_first, to_key, to_prev, to_remove, move, cursor_at}
@@ -90,8 +89,8 @@ free_count_lem p w =
 
 -- a made-up need: a put is refused with 4 exactly where the rule's need is above F
 pub need-count : (f : Program) → Keeps f → (t k v : ℕ) (p : Pool) → WellFormed leaf_least p → t < length p.trees →
-    ((f (put t k v) (encode p)).answer ≡ Refused NoRoom → length p.free < need 7 k (tree_of p t)) ×
-    (length p.free < need 7 k (tree_of p t) → (f (put t k v) (encode p)).answer ≡ Refused NoRoom)
+    ((f (put t k v) (encode p)).answer ≡ Err NoRoom → length p.free < need 7 k (tree_of p t)) ×
+    (length p.free < need 7 k (tree_of p t) → (f (put t k v) (encode p)).answer ≡ Err NoRoom)
 need-count f k t key v p w there =
     let e = (k (put t key v) (encode p)).sound_answer p w refl in
     let x = room_exactly t key v p there in
@@ -153,29 +152,29 @@ zeroed = run (put 0 0 5 ∷ []) start
 pub zeroed_formed : WellFormed leaf_least zeroed
 zeroed_formed = run_formed leaf_least (omega arith) (omega arith) (put 0 0 5 ∷ []) start start_formed
 
-pub same_numbers : answer_of (Value 5) ≡ answer_of (Pair 0 5)
+pub same_numbers : answer_of (value 5) ≡ answer_of (pair 0 5)
 same_numbers = refl
 
-value_pair : Value 5 ≡ Pair 0 5 → ⊥
+value_pair : value 5 ≡ pair 0 5 → ⊥
 value_pair e = let z : ◌≡◌ {A = ℕ} 0 1 = cc in omega arith
 
 -- get, put and remove of a key that is held, and seek and a remove at the cursor on it
-pub pair_for_value : (f : Program) → Keeps f → (c : Call) → (call c zeroed).answer ≡ Value 5 → (f c (encode zeroed)).answer ≡ Pair 0 5 → ⊥
+pub pair_for_value : (f : Program) → Keeps f → (c : Call) → (call c zeroed).answer ≡ value 5 → (f c (encode zeroed)).answer ≡ pair 0 5 → ⊥
 pair_for_value f k c e g = value_pair (sym e ∙ (k c (encode zeroed)).sound_answer zeroed zeroed_formed refl ∙ g)
 
-pub pair_for_value_moves : (f : Mover) → KeepsMoves f → (v : Move) (c : Cursor) → (move v c zeroed).answer ≡ Value 5 → (f v c (encode zeroed)).answer ≡ Pair 0 5 → ⊥
+pub pair_for_value_moves : (f : Mover) → KeepsMoves f → (v : Move) (c : Cursor) → (move v c zeroed).answer ≡ value 5 → (f v c (encode zeroed)).answer ≡ pair 0 5 → ⊥
 pair_for_value_moves f k v c e g = value_pair (sym e ∙ (k v c (encode zeroed)).sound_answer zeroed zeroed_formed refl ∙ g)
 
-pub values_held : ((call (get 0 0) zeroed).answer ≡ Value 5) × ((call (put 0 0 6) zeroed).answer ≡ Value 5) × ((call (remove 0 0) zeroed).answer ≡ Value 5) ×
-    ((move (to_key 0) off_end zeroed).answer ≡ Value 5) × ((move to_remove on_nine zeroed).answer ≡ Value 5)
+pub values_held : ((call (get 0 0) zeroed).answer ≡ value 5) × ((call (put 0 0 6) zeroed).answer ≡ value 5) × ((call (remove 0 0) zeroed).answer ≡ value 5) ×
+    ((move (to_key 0) off_end zeroed).answer ≡ value 5) × ((move to_remove on_nine zeroed).answer ≡ value 5)
 unfolding steps
 values_held = (refl, refl, refl, refl, refl)
 
 -- first, and prev from off the end
-pub value_for_pair : (f : Mover) → KeepsMoves f → (v : Move) (c : Cursor) → (move v c zeroed).answer ≡ Pair 0 5 → (f v c (encode zeroed)).answer ≡ Value 5 → ⊥
+pub value_for_pair : (f : Mover) → KeepsMoves f → (v : Move) (c : Cursor) → (move v c zeroed).answer ≡ pair 0 5 → (f v c (encode zeroed)).answer ≡ value 5 → ⊥
 value_for_pair f k v c e g = value_pair (sym (sym e ∙ (k v c (encode zeroed)).sound_answer zeroed zeroed_formed refl ∙ g))
 
-pub pairs-told : ((move to_first off_end zeroed).answer ≡ Pair 0 5) × ((move to_prev off_end zeroed).answer ≡ Pair 0 5)
+pub pairs-told : ((move to_first off_end zeroed).answer ≡ pair 0 5) × ((move to_prev off_end zeroed).answer ≡ pair 0 5)
 unfolding steps
 pairs-told = (refl, refl)
 

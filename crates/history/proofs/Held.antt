@@ -10,8 +10,7 @@ use lib.ListN.{length, get_or, replicate}
 use Rattle.forest.specs.Sizes.{leaf_cap, leaf_least}
 use Rattle.forest.specs.Pairs.{Item, lookup}
 use Rattle.forest.specs.Trees.{pairs, need}
-use Rattle.forest.specs.declared.Reply.TheVariants.{Value}
-use Rattle.forest.specs.Answers.{kept}
+use Rattle.forest.specs.Answers.{kept, value}
 use Rattle.forest.specs.Pools.{Pool, WellFormed, encode, Call, put, get, tree_of, call, run, formatted}
 use Rattle.forest.specs.Cursors.{cursor_at, stands, to_first, to_key, to_next, to_remove, move}
 use Rattle.forest.proofs.PoolLaws.{call_formed}
@@ -73,7 +72,7 @@ grown = (call (put 0 37 1) pool).pool
 pub grown_formed : WellFormed leaf_least grown
 grown_formed = call_formed leaf_least (omega arith) (omega arith) (put 0 37 1) pool pool_formed
 
-pub put_twice_done : ((call (put 0 37 1) grown).answer ≡ Value 1) × (encode (call (put 0 37 1) grown).pool ≡ encode grown)
+pub put_twice_done : ((call (put 0 37 1) grown).answer ≡ value 1) × (encode (call (put 0 37 1) grown).pool ≡ encode grown)
 put_twice_done = put_again (on_key (put 0 37 1) pool pool_formed) put-done (on_key (put 0 37 1) grown grown_formed)
 
 pub get_refused : kept (call (get 2 5) pool).answer ≡ false

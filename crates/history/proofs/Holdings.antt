@@ -9,15 +9,14 @@ use native.Mathlib.Omega.{arith}
 use lib.ListN.{length, get_or, replicate, length-replicate}
 use lib.Dec.{ltb, eqb}
 use borrow.Author.Tests.{ltb-true, ltb-false}
+use Rattle.std.specs.Prelude.{Err}
 use Rattle.forest.specs.Sizes.{leaf_cap, leaf_least}
 use Rattle.forest.specs.Pairs.{Item, Rising, lookup, has}
 use Rattle.forest.specs.Rows.{Tree}
 use Rattle.forest.specs.Trees.{pairs, need}
-use Rattle.forest.specs.declared.Reply.{Reply}
-use Rattle.forest.specs.declared.Reply.TheVariants.{Value, Refused}
 use Rattle.forest.specs.declared.Refusal.{Refusal}
 use Rattle.forest.specs.declared.Refusal.TheVariants.{NoTree, NoRoom}
-use Rattle.forest.specs.Answers.{held, kept}
+use Rattle.forest.specs.Answers.{held, kept, Reply, value}
 use Rattle.forest.specs.Pools.{Pool, Sound, Call, put, remove, get, target, tree_of, refused, call, acts, key_of, fresh, formatted, format_words}
 use Rattle.forest.specs.Promises.{Calls}
 use Rattle.forest.proofs.ListLaws.{is, isnt, test}
@@ -94,7 +93,7 @@ module _ (m : ℕ) (lo : 1 ≤ m) (hi : m ≤ 4) {c : Call} {ws us : List ℕ} {
         };
       }
 
-  pub refused_by : (s : Sound m ws) (x : Refusal) → refused c s.pool ≡ some x → (r ≡ Refused x) × (us ≡ ws)
+  pub refused_by : (s : Sound m ws) (x : Refusal) → refused c s.pool ≡ some x → (r ≡ Err x) × (us ≡ ws)
   refused_by s x e =
       let d = call-refused c s.pool x e in
       (sym (answered s) ∙ ap (λ z. z.answer) d, calls_same m k s (ap (λ z. z.pool) d))
@@ -112,7 +111,7 @@ module _ (m : ℕ) (lo : 1 ≤ m) (hi : m ≤ 4) {c : Call} {ws us : List ℕ} {
   }
 
   -- a tree that is not there
-  pub no_tree : Sound m ws → get_or ws 0 0 ≤ target c → (r ≡ Refused NoTree) × (us ≡ ws)
+  pub no_tree : Sound m ws → get_or ws 0 0 ≤ target c → (r ≡ Err NoTree) × (us ≡ ws)
   no_tree s h = let e = trees_word s in refused_by s NoTree (refused_two c s.pool (omega arith))
 
   -- a call that is refused changes no word
@@ -167,15 +166,15 @@ module _ (m : ℕ) (lo : 1 ≤ m) (hi : m ≤ 4) {t x : ℕ} {ws us : List ℕ} 
 
     -- for room exactly where it takes more nodes than are free
     pub put-room :
-        (r ≡ Refused NoRoom → length h.sound.pool.free < need leaf_cap x (tree_of h.sound.pool t)) ×
-        (length h.sound.pool.free < need leaf_cap x (tree_of h.sound.pool t) → r ≡ Refused NoRoom)
+        (r ≡ Err NoRoom → length h.sound.pool.free < need leaf_cap x (tree_of h.sound.pool t)) ×
+        (length h.sound.pool.free < need leaf_cap x (tree_of h.sound.pool t) → r ≡ Err NoRoom)
     put-room =
         let a = answered m lo hi k h.sound in
         let e = room_exactly t x v h.sound.pool h.there in
         (λ q. e.0 (a ∙ q), λ q. sym a ∙ e.1 q)
 
     -- of a value that is held: no word changes
-    pub put_known : lookup x xs ≡ some v → (r ≡ Value v) × (us ≡ ws)
+    pub put_known : lookup x xs ≡ some v → (r ≡ value v) × (us ≡ ws)
     put_known e =
         let p = h.sound.pool in
         let w = h.sound.formed in
@@ -184,7 +183,7 @@ module _ (m : ℕ) (lo : 1 ≤ m) (hi : m ≤ 4) {t x : ℕ} {ws us : List ℕ} 
         (sym (answered m lo hi k h.sound) ∙ ap (λ z. z.answer) d, calls_same m k h.sound (ap (λ z. z.pool) d))
 
 -- a put that was done, made again, changes no word, whatever the words
-pub put_again : {t x v : ℕ} {ws us vs : List ℕ} {r s : Reply} → Calls leaf_least (put t x v) ws us r → kept r ≡ true → Calls leaf_least (put t x v) us vs s → (s ≡ Value v) × (vs ≡ us)
+pub put_again : {t x v : ℕ} {ws us vs : List ℕ} {r s : Reply} → Calls leaf_least (put t x v) ws us r → kept r ≡ true → Calls leaf_least (put t x v) us vs s → (s ≡ value v) × (vs ≡ us)
 put_again {t} {x} {v} {ws} k e l = elim (decide ws) [
   | sound o ↦
       let f : refused (put t x v) o.pool ≡ none = free_kept (put t x v) o.pool (ap kept (answered leaf_least (omega arith) (omega arith) k o) ∙ e) in

@@ -6,8 +6,7 @@ use mathlib.Core.Logic.{◌≢◌}
 use Prim.Native.Nat.{ℕ, ◌≤◌}
 use native.Mathlib.Omega.{arith}
 use Rattle.forest.specs.Rows.{Tree}
-use Rattle.forest.specs.declared.Reply.{Reply}
-use Rattle.forest.specs.Answers.{told, kept}
+use Rattle.forest.specs.Answers.{told, kept, Reply}
 use Rattle.forest.specs.Runs.{finally, replies, own_calls, own_replies}
 use Rattle.forest.specs.Pools.{Pool, WellFormed, encode, fresh, tree_of, calls, shape, AllDone}
 use Rattle.forest.specs.Cursors.{leaves, pair_at, first, cursor_at, to_first, move_from}

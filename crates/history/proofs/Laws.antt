@@ -5,9 +5,9 @@ use mathlib.Core.Bool.{Bool, true, false}
 use Prim.Native.Nat.{ℕ, ◌≤◌}
 use native.Mathlib.Omega.{arith}
 use lib.ListN.{length}
+use Rattle.forest.specs.Answers.{Reply}
 use Rattle.forest.specs.Sizes.{leaf_least}
 use Rattle.forest.specs.declared.Cursor.{Cursor}
-use Rattle.forest.specs.declared.Reply.{Reply}
 use Rattle.forest.specs.Pools.{Sound, Call, call, formatted, format_words}
 use Rattle.forest.specs.Cursors.{Move}
 use Rattle.forest.specs.Promises.{Calls, Moves}

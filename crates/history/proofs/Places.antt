@@ -7,15 +7,14 @@ use mathlib.Core.Option.{Option, none, some}
 use Prim.Native.Nat.{ℕ, suc, ◌-◌, ◌≤◌, ◌<◌}
 use native.Mathlib.Omega.{arith}
 use lib.ListN.{length, get_or, get_elem?}
+use Rattle.std.specs.Prelude.{Err}
 use Rattle.forest.specs.Sizes.{leaf_cap, leaf_least}
 use Rattle.forest.specs.Pairs.{Item}
 use Rattle.forest.specs.Rows.{Good}
 use Rattle.forest.specs.Trees.{pairs}
-use Rattle.forest.specs.declared.Reply.{Reply}
-use Rattle.forest.specs.declared.Reply.TheVariants.{Nothing, Refused}
 use Rattle.forest.specs.declared.Refusal.TheVariants.{NoTree, NoPlace}
 use Rattle.forest.specs.declared.Cursor.{Cursor}
-use Rattle.forest.specs.Answers.{told, kept}
+use Rattle.forest.specs.Answers.{told, kept, Reply, nothing}
 use Rattle.forest.specs.Pools.{Pool, WellFormed, Sound, tree_of}
 use Rattle.forest.specs.Cursors.{Spot, off, leaves, pair_at, seek, position, spot_at, path_of, spot_of, path_in, stands, Move, to_first, to_key, to_next, to_prev, to_settled, to_remove, reads, blocked, move_from, move}
 use Rattle.forest.specs.Promises.{Moves}
@@ -70,11 +69,11 @@ module _ (m : ℕ) (lo : 1 ≤ m) (hi : m ≤ 4) {v : Move} {c d : Cursor} {ws u
   }
 
   -- a tree that is not there
-  pub no_tree_moves : Sound m ws → get_or ws 0 0 ≤ c.tree → Remains c ws us r d (Refused NoTree)
+  pub no_tree_moves : Sound m ws → get_or ws 0 0 ≤ c.tree → Remains c ws us r d (Err NoTree)
   no_tree_moves s h = let e = trees_word s in remains_by s (move-refused v c s.pool NoTree ((move_two v c s.pool).1 (omega arith)))
 
   -- a cursor that is read and does not stand
-  pub no_place_moves : {xs : List Item} (h : HoldsPairs m ws c.tree xs) → reads v ≡ true → stands (tree_of h.sound.pool c.tree) c ≡ false → Remains c ws us r d (Refused NoPlace)
+  pub no_place_moves : {xs : List Item} (h : HoldsPairs m ws c.tree xs) → reads v ≡ true → stands (tree_of h.sound.pool c.tree) c ≡ false → Remains c ws us r d (Err NoPlace)
   no_place_moves h o n = remains_by h.sound (move-refused v c h.sound.pool NoPlace ((move_three v c h.sound.pool h.there).1 (o, n)))
 
   -- A move that is not refused
@@ -226,7 +225,7 @@ module _ (m : ℕ) (lo : 1 ≤ m) (hi : m ≤ 4) {c d : Cursor} {ws us : List �
       })
 
   -- prev with no pair before it: it stays
-  pub prev_stays : {o : Option Item} → Moves m to_prev c ws us r d → StandsAt m ws c xs 0 o → Whole c → Remains c ws us r d Nothing
+  pub prev_stays : {o : Option Item} → Moves m to_prev c ws us r d → StandsAt m ws c xs 0 o → Whole c → Remains c ws us r d nothing
   prev_stays k s w =
       let h = s.holds in
       let e = free m lo s to_prev in
@@ -234,14 +233,14 @@ module _ (m : ℕ) (lo : 1 ≤ m) (hi : m ≤ 4) {c d : Cursor} {ws us : List �
 
   module _ {i : ℕ} where
     -- settle: the pair whose place the cursor has
-    pub settle_holds : {o : Option Item} → Moves m to_settled c ws us r d → StandsAt m ws c xs i o → Arrives m c ws us r d Nothing xs i (get_elem? xs i)
+    pub settle_holds : {o : Option Item} → Moves m to_settled c ws us r d → StandsAt m ws c xs i o → Arrives m c ws us r d nothing xs i (get_elem? xs i)
     settle_holds k s =
         let h = s.holds in
         let e = free m lo s to_settled in
         rw (← h.same, ← s.before) (goes-place m lo hi k h.sound h.there e (λ z. true≢false (cc)) (few m lo s) (settle_goes m lo hi h.sound.pool h.sound.formed c e))
 
     -- on a pair it stays
-    pub settle_stays : {y : Item} → Moves m to_settled c ws us r d → StandsAt m ws c xs i (some y) → Whole c → Remains c ws us r d Nothing
+    pub settle_stays : {y : Item} → Moves m to_settled c ws us r d → StandsAt m ws c xs i (some y) → Whole c → Remains c ws us r d nothing
     settle_stays k s w =
         let h = s.holds in
         let e = free m lo s to_settled in
@@ -297,25 +296,25 @@ module _ (m : ℕ) (lo : 1 ≤ m) (hi : m ≤ 4) {c d : Cursor} {ws us : List �
 
     -- at size 0 settle and next leave it, and tell none
     module _ {o : Option Item} (s : StandsAt m ws c xs i o) (z : c.size ≡ 0) (w : Whole c) where
-      pub settle_off : Moves m to_settled c ws us r d → Remains c ws us r d Nothing
+      pub settle_off : Moves m to_settled c ws us r d → Remains c ws us r d nothing
       settle_off k =
           let h = s.holds in
           let e = free m lo s to_settled in
           let g = settle_goes m lo hi h.sound.pool h.sound.formed c e in
           remains-at m lo hi k h.sound h.there e (λ z. true≢false (cc)) w s.standing (record { answers = g.answers; spot = g.spot ∙ at-end m lo s z })
 
-      pub next_off : Moves m to_next c ws us r d → Remains c ws us r d Nothing
+      pub next_off : Moves m to_next c ws us r d → Remains c ws us r d nothing
       next_off k =
           let h = s.holds in
           let p = h.sound.pool in
           let e = free m lo s to_next in
           let n : pair_at (row p c) (spot_in p c) ≡ none = rw (size_off (tree_of p c.tree) c z) in
           let g = next_past_goes m lo hi p h.sound.formed c e n in
-          let t : told (get_elem? (list p c) (rank p c)) ≡ Nothing = ap told (sym (place_pair (tree_of p c.tree) (rank p c)) ∙ ap (pair_at (row p c)) (at-end m lo s z) ∙ n) in
+          let t : told (get_elem? (list p c) (rank p c)) ≡ nothing = ap told (sym (place_pair (tree_of p c.tree) (rank p c)) ∙ ap (pair_at (row p c)) (at-end m lo s z) ∙ n) in
           remains-at m lo hi k h.sound h.there e (λ z. true≢false (cc)) w s.standing (record { answers = g.answers ∙ t; spot = g.spot ∙ at-end m lo s z })
 
     -- on no pair nothing does
-    pub remove_stays : Moves m to_remove c ws us r d → StandsAt m ws c xs i none → Whole c → Remains c ws us r d Nothing
+    pub remove_stays : Moves m to_remove c ws us r d → StandsAt m ws c xs i none → Whole c → Remains c ws us r d nothing
     remove_stays k s w =
         let h = s.holds in
         remains_by m lo hi k h.sound (remove_none m lo hi h.sound.pool h.sound.formed c w.nodes w.places (free m lo s to_remove) s.pair)

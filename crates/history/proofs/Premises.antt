@@ -5,9 +5,9 @@ use mathlib.Core.Bool.{false, true≢false}
 use Prim.Native.Nat.{ℕ}
 use native.Mathlib.Omega.{arith}
 use lib.ListN.{replicate}
+use Rattle.std.specs.Prelude.{Err}
+use Rattle.forest.specs.Answers.{Reply, nothing, pair, value}
 use Rattle.forest.specs.Sizes.{leaf_least}
-use Rattle.forest.specs.declared.Reply.{Reply}
-use Rattle.forest.specs.declared.Reply.TheVariants.{Nothing, Value, Pair, Refused}
 use Rattle.forest.specs.declared.Refusal.TheVariants.{Unsound, NoTree, NoPlace, NoRoom, NoFormat}
 use Rattle.forest.specs.declared.Cursor.{Cursor}
 use Rattle.forest.specs.Pools.{Pool, WellFormed, Sound, encode, fresh, Call, put, remove, get, call, run, format_words, format_answer}
@@ -29,7 +29,7 @@ use Rattle.history.proofs.Fakes.{Outcome, Program, Keeps, Handed, Mover, KeepsMo
 -- the outcome on sound words, and on others
 abbrev outcome : (c : Call) (ws : List ℕ) → Decided ws → Outcome
 outcome c ws (sound s) = let p = s.pool in record { words = encode (call c p).pool; answer = (call c p).answer }
-outcome c ws (unsound n) = record { words = ws; answer = Refused Unsound }
+outcome c ws (unsound n) = record { words = ws; answer = Err Unsound }
 
 -- the definitions themselves, run
 abbrev pub honest : Program
@@ -47,7 +47,7 @@ abbrev handed : (v : Move) (c : Cursor) (ws : List ℕ) → Decided ws → Hande
 handed v c ws (sound s) =
     let p = s.pool in
     record { words = encode (move v c p).pool; answer = (move v c p).answer; cursor = (move v c p).cursor }
-handed v c ws (unsound n) = record { words = ws; answer = Refused Unsound; cursor = c }
+handed v c ws (unsound n) = record { words = ws; answer = Err Unsound; cursor = c }
 
 abbrev pub honest_moves : Mover
 honest_moves v c ws = handed v c ws (decide ws)
@@ -99,7 +99,7 @@ last_formed = run_formed leaf_least (omega arith) (omega arith) (put 1 5 60 ∷ 
 
 -- their answers
 abbrev told : List Reply
-told = Nothing ∷ Refused NoRoom ∷ Refused NoTree ∷ Refused NoFormat ∷ Nothing ∷ Value 100 ∷ Refused NoPlace ∷ Nothing ∷ Value 60 ∷ Pair 5 60 ∷ []
+told = nothing ∷ Err NoRoom ∷ Err NoTree ∷ Err NoFormat ∷ nothing ∷ value 100 ∷ Err NoPlace ∷ nothing ∷ value 60 ∷ pair 5 60 ∷ []
 
 pub some_events : Went leaf_least events (encode (fresh 2 1)) told (encode last)
 unfolding steps format_words format_answer
@@ -123,7 +123,7 @@ none_formats = (refl, tt)
 pub some_acts :
     (own_of 0 (acts_of events (fresh 2 1)) (replies_of events told (fresh 2 1)) ≡ ask (put 0 9 100) ∷ ask (remove 0 9) ∷ []) ×
     (own_of 1 (acts_of events (fresh 2 1)) (replies_of events told (fresh 2 1)) ≡ ask (get 1 5) ∷ ask (put 1 5 60) ∷ ask (get 1 5) ∷ least 1 ∷ []) ×
-    (answers_of 1 (acts_of events (fresh 2 1)) (replies_of events told (fresh 2 1)) ≡ Nothing ∷ Nothing ∷ Value 60 ∷ Pair 5 60 ∷ [])
+    (answers_of 1 (acts_of events (fresh 2 1)) (replies_of events told (fresh 2 1)) ≡ nothing ∷ nothing ∷ value 60 ∷ pair 5 60 ∷ [])
 unfolding steps
 some_acts = (refl, refl, refl)
 
@@ -136,7 +136,7 @@ abbrev pub start_sound : Sound leaf_least (encode start)
 start_sound = record { pool = start; formed = start_formed; same = refl }
 
 pub some_calls : (Sound leaf_least (replicate 38 0) → ⊥) ×
-    Went leaf_least (key (put 0 9 100) ∷ format 1 2 ∷ key (put 0 9 100) ∷ []) (replicate 38 0) (Refused Unsound ∷ Nothing ∷ Nothing ∷ []) (encode filed)
+    Went leaf_least (key (put 0 9 100) ∷ format 1 2 ∷ key (put 0 9 100) ∷ []) (replicate 38 0) (Err Unsound ∷ nothing ∷ nothing ∷ []) (encode filed)
 unfolding steps checked framed format_words format_answer
 some_calls =
     let n : Sound leaf_least (replicate 38 0) → ⊥ = λ q. true≢false (sym ((exact (replicate 38 0) false refl).every q)) in

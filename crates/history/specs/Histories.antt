@@ -4,8 +4,7 @@ use Rattle.std.proofs.Math.Option.{Option, none, some}
 use Rattle.forest.specs.Pairs.{Item}
 use Rattle.forest.specs.declared.Cursor.{Cursor}
 use Rattle.forest.specs.declared.Refusal.{Refusal}
-use Rattle.forest.specs.declared.Reply.{Reply}
-use Rattle.forest.specs.Answers.{kept}
+use Rattle.forest.specs.Answers.{kept, Reply}
 use Rattle.forest.specs.Runs.{Kind}
 use Rattle.forest.specs.Pools.{Pool, WellFormed, Sound, encode, fresh, Call, remove, get, target, tree_of, call, formatted, format_words, format_answer, shape, AllDone}
 use Rattle.forest.specs.Cursors.{leaves, pair_at, spot_of, path_in, cursor_at, Move, to_first, to_key, to_next, to_prev, to_settled, to_remove, blocked, move}

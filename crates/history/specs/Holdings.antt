@@ -1,16 +1,14 @@
 -- DEFINITIONS. Demand 2 is said of these: which sorted list the words hold in a tree, and where a cursor stands in it
-use Rattle.std.specs.Prelude.{◌≡◌, List, true, ℕ, suc, ◌≤◌, ◌<◌, length}
+use Rattle.std.specs.Prelude.{◌≡◌, List, true, ℕ, suc, ◌≤◌, ◌<◌, length, Err}
 use Rattle.std.proofs.Math.Option.{Option, some}
 use Rattle.std.proofs.Math.ListN.{get_elem?}
 use Rattle.forest.specs.Sizes.{most_levels}
 use Rattle.forest.specs.Lists.{remove_at}
 use Rattle.forest.specs.Pairs.{Item, lookup, place}
 use Rattle.forest.specs.Trees.{pairs}
-use Rattle.forest.specs.declared.Reply.{Reply}
-use Rattle.forest.specs.declared.Reply.TheVariants.{Value, Refused}
 use Rattle.forest.specs.declared.Refusal.TheVariants.{NoRoom}
 use Rattle.forest.specs.declared.Cursor.{Cursor}
-use Rattle.forest.specs.Answers.{held}
+use Rattle.forest.specs.Answers.{held, Reply, value}
 use Rattle.forest.specs.Pools.{Sound, Call, put, target, tree_of, acts, key_of}
 use Rattle.forest.specs.Cursors.{leaves, pair_at, position, spot_of, path_in, stands}
 
@@ -44,7 +42,7 @@ pub record Does (m : ℕ) (c : Call) (us : List ℕ) (r : Reply) (xs : List Item
 -- a put is done, or it is refused for room and changes no word
 pub data Filed (m t k v : ℕ) (ws us : List ℕ) (r : Reply) (xs : List Item) : Type 0 where
   filed : Does m (put t k v) us r xs → Filed m t k v ws us r xs
-  no_room : r ≡ Refused NoRoom → us ≡ ws → Filed m t k v ws us r xs
+  no_room : r ≡ Err NoRoom → us ≡ ws → Filed m t k v ws us r xs
 
 -- Cursor calls
 
@@ -82,7 +80,7 @@ pub record Seeks (m k : ℕ) (c : Cursor) (ws us : List ℕ) (r : Reply) (d : Cu
 
 -- a remove at a cursor on y, the i-th pair: y goes, its value is answered, and the cursor has its place, on the pair that came after it, or off the end
 pub record TakesOut (m : ℕ) (c : Cursor) (us : List ℕ) (r : Reply) (d : Cursor) (xs : List Item) (i : ℕ) (y : Item) : Type 0 where
-  pub answer : r ≡ Value y.1
+  pub answer : r ≡ value y.1
   pub holds : HoldsPairs m us c.tree (remove_at i xs)
   pub comes : Comes m c us d (remove_at i xs) i (get_elem? xs (suc i))
   pub ended : length xs ≤ suc i → d.size ≡ 0

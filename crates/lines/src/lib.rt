@@ -36,7 +36,7 @@ impl fmt::Display for Numbers {
             found,
             key,
             value,
-        } = forest::numbered(self.0);
+        } = Answer::from(self.0);
         write!(f, "{number} {} {key} {value} ", u32::from(found))
     }
 }

@@ -126,7 +126,7 @@ fn judge(rt: &(impl Input + Print), kept: &[u32; KEPT], pool: Pool) -> io::Resul
 // Formats some words, and judges them then.
 fn say_format(rt: &(impl Input + Print), ws: &mut [u32], trees: u32, nodes: u32) -> io::Result<()> {
     let reply = pool::format(ws, trees, nodes);
-    print!(rt; "{}    ", forest::numbered(reply).number)?;
+    print!(rt; "{}    ", forest::Answer::from(reply).number)?;
     say(rt, sound::check(ws))
 }
 

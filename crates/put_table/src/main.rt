@@ -9,7 +9,7 @@ use std::io;
 
 // A line: number, found as 0 or 1, value.
 fn answer(rt: &impl Print, r: Reply) -> io::Result<()> {
-    let a = forest::numbered(r);
+    let a = forest::Answer::from(r);
     println!(rt; "{} {} {} ", a.number, u32::from(a.found), a.value)
 }
 
@@ -36,7 +36,7 @@ fn tree_a(rt: &impl Print, name: &str, ws: &mut [u32], nodes: u32) -> io::Result
 
 // A put is refused for want of nodes.
 fn full(ws: &mut [u32], key: u32, value: u32) -> bool {
-    matches!(map::put(ws, 0, key, value), Reply::Refused(Refusal::NoRoom))
+    matches!(map::put(ws, 0, key, value), Err(Refusal::NoRoom))
 }
 
 // Keys from `from` on, each `step` further, modulo 101, until one is refused: how many came.

@@ -118,7 +118,7 @@ fn made(ws: &mut [u32], call: Call, r: &[u32; 37]) -> Moved {
 // A recorded call, made; what it gave, and the words after it, are compared with the recorded ones.
 pub fn judge(ws: &mut [u32], call: Call, r: &[u32; 37]) -> Result<(), Differs> {
     let m = made(ws, call, r);
-    if !same_answer(&forest::numbered(m.reply), r) {
+    if !same_answer(&Answer::from(m.reply), r) {
         return Err(Differs::Answer);
     }
     if !same_cursor(&m.cursor, &cursor(r, 24)) {

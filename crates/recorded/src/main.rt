@@ -114,7 +114,7 @@ fn run(
 ) -> Result<u64, Stop>
     ensures { IfOk result (λ differ. differ ≤ 4294967296) }
 {
-    if forest::numbered(pool::format(ws, trees, nodes)).number != 0 {
+    if forest::Answer::from(pool::format(ws, trees, nodes)).number != 0 {
         return Err(Stop::OutOfRange(list));
     }
     compared(rt, ws, list, count)

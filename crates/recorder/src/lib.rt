@@ -21,15 +21,14 @@ pub struct Moved {
 }
 
 // What a cursor call hands back, its reply in document 01's numbers.
-fn numbered(moved: forest::Moved) -> Moved
-    ensures answer { result.answer ≡ answer_of moved.reply }
-    ensures cursor { result.cursor ≡ moved.cursor }
-{
-    let reply = moved.reply;
-    let cursor = moved.cursor;
-    Moved {
-        answer: forest::numbered(reply),
-        cursor: cursor,
+impl From<forest::Moved> for Moved {
+    ghost from_gives = { λ moved r. (r.answer ≡ answer_of moved.reply) × (r.cursor ≡ moved.cursor) };
+
+    fn from(moved: forest::Moved) -> Moved {
+        Moved {
+            answer: moved.reply.into(),
+            cursor: moved.cursor,
+        }
     }
 }
 
@@ -49,7 +48,7 @@ pub extern "C" fn recorder_format(words: &mut [u32], trees: u32, nodes: u32) -> 
     ensures words { words.new ≡ format_words trees nodes words.old }
     ensures answer { result ≡ answer_of (format_answer trees nodes words.old) }
 {
-    forest::numbered(pool::format(words, trees, nodes))
+    pool::format(words, trees, nodes).into()
 }
 
 // The value of a key.
@@ -57,7 +56,7 @@ pub extern "C" fn recorder_format(words: &mut [u32], trees: u32, nodes: u32) -> 
 pub extern "C" fn recorder_get(words: &[u32], tree: u32, key: u32) -> Answer
     ensures { AnswersCall (get tree key) words.now words.now result }
 {
-    forest::numbered(map::get(words, tree, key))
+    map::get(words, tree, key).into()
 }
 
 // Files a value under a key, in place of an earlier one, which is told.
@@ -65,7 +64,7 @@ pub extern "C" fn recorder_get(words: &[u32], tree: u32, key: u32) -> Answer
 pub extern "C" fn recorder_put(words: &mut [u32], tree: u32, key: u32, value: u32) -> Answer
     ensures { AnswersCall (put tree key value) words.old words.new result }
 {
-    forest::numbered(map::put(words, tree, key, value))
+    map::put(words, tree, key, value).into()
 }
 
 // Takes a key out, and tells its value.
@@ -73,7 +72,7 @@ pub extern "C" fn recorder_put(words: &mut [u32], tree: u32, key: u32, value: u3
 pub extern "C" fn recorder_remove(words: &mut [u32], tree: u32, key: u32) -> Answer
     ensures { AnswersCall (remove tree key) words.old words.new result }
 {
-    forest::numbered(map::remove(words, tree, key))
+    map::remove(words, tree, key).into()
 }
 
 // Go to the first pair, and tell it.
@@ -81,7 +80,7 @@ pub extern "C" fn recorder_remove(words: &mut [u32], tree: u32, key: u32) -> Ans
 pub extern "C" fn recorder_first(words: &[u32], at: Cursor) -> Moved
     ensures { AnswersMove to_first at words.now words.now result.answer result.cursor }
 {
-    numbered(map::first(words, at))
+    map::first(words, at).into()
 }
 
 // Go to a key and tell its value, or to where it would be put.
@@ -89,7 +88,7 @@ pub extern "C" fn recorder_first(words: &[u32], at: Cursor) -> Moved
 pub extern "C" fn recorder_seek(words: &[u32], at: Cursor, key: u32) -> Moved
     ensures { AnswersMove (to_key key) at words.now words.now result.answer result.cursor }
 {
-    numbered(map::seek(words, at, key))
+    map::seek(words, at, key).into()
 }
 
 // From one past a leaf's last entry go to the pair after it; nothing is told.
@@ -97,7 +96,7 @@ pub extern "C" fn recorder_seek(words: &[u32], at: Cursor, key: u32) -> Moved
 pub extern "C" fn recorder_settle(words: &[u32], at: Cursor) -> Moved
     ensures { AnswersMove to_settled at words.now words.now result.answer result.cursor }
 {
-    numbered(map::settle(words, at))
+    map::settle(words, at).into()
 }
 
 // Go to the next pair, and tell it; after the last the cursor is off the end.
@@ -105,7 +104,7 @@ pub extern "C" fn recorder_settle(words: &[u32], at: Cursor) -> Moved
 pub extern "C" fn recorder_next(words: &[u32], at: Cursor) -> Moved
     ensures { AnswersMove to_next at words.now words.now result.answer result.cursor }
 {
-    numbered(map::next(words, at))
+    map::next(words, at).into()
 }
 
 // Go to the pair before, and tell it; on the first pair stay, and tell none.
@@ -113,7 +112,7 @@ pub extern "C" fn recorder_next(words: &[u32], at: Cursor) -> Moved
 pub extern "C" fn recorder_prev(words: &[u32], at: Cursor) -> Moved
     ensures { AnswersMove to_prev at words.now words.now result.answer result.cursor }
 {
-    numbered(map::prev(words, at))
+    map::prev(words, at).into()
 }
 
 // Takes out the pair that the cursor is on, tells its value, and goes to the next; on no pair nothing happens.
@@ -121,7 +120,7 @@ pub extern "C" fn recorder_prev(words: &[u32], at: Cursor) -> Moved
 pub extern "C" fn recorder_remove_at(words: &mut [u32], at: Cursor) -> Moved
     ensures { AnswersMove to_remove at words.old words.new result.answer result.cursor }
 {
-    numbered(map::remove_at(words, at))
+    map::remove_at(words, at).into()
 }
 
 // The calls for sound words, and from settle on for a cursor that stands
@@ -141,7 +140,7 @@ pub extern "C" fn recorder_sound_get(words: &[u32], tree: u32, key: u32) -> Answ
     requires { Sound leaf_least words.now }
     ensures { AnswersCall (get tree key) words.now words.now result }
 {
-    forest::numbered(map::sound_get(words, tree, key))
+    map::sound_get(words, tree, key).into()
 }
 
 // Files a value under a key, in place of an earlier one, which is told.
@@ -150,7 +149,7 @@ pub extern "C" fn recorder_sound_put(words: &mut [u32], tree: u32, key: u32, val
     requires { Sound leaf_least words.old }
     ensures { AnswersCall (put tree key value) words.old words.new result }
 {
-    forest::numbered(map::sound_put(words, tree, key, value))
+    map::sound_put(words, tree, key, value).into()
 }
 
 // Takes a key out, and tells its value.
@@ -159,7 +158,7 @@ pub extern "C" fn recorder_sound_remove(words: &mut [u32], tree: u32, key: u32) 
     requires { Sound leaf_least words.old }
     ensures { AnswersCall (remove tree key) words.old words.new result }
 {
-    forest::numbered(map::sound_remove(words, tree, key))
+    map::sound_remove(words, tree, key).into()
 }
 
 // Go to the first pair, and tell it.
@@ -168,7 +167,7 @@ pub extern "C" fn recorder_sound_first(words: &[u32], at: Cursor) -> Moved
     requires { Sound leaf_least words.now }
     ensures { AnswersMove to_first at words.now words.now result.answer result.cursor }
 {
-    numbered(map::sound_first(words, at))
+    map::sound_first(words, at).into()
 }
 
 // Go to a key and tell its value, or to where it would be put.
@@ -177,7 +176,7 @@ pub extern "C" fn recorder_sound_seek(words: &[u32], at: Cursor, key: u32) -> Mo
     requires { Sound leaf_least words.now }
     ensures { AnswersMove (to_key key) at words.now words.now result.answer result.cursor }
 {
-    numbered(map::sound_seek(words, at, key))
+    map::sound_seek(words, at, key).into()
 }
 
 // From one past a leaf's last entry go to the pair after it; nothing is told.
@@ -186,7 +185,7 @@ pub extern "C" fn recorder_sound_settle(words: &[u32], at: Cursor) -> Moved
     requires { Stood words.now at }
     ensures { AnswersMove to_settled at words.now words.now result.answer result.cursor }
 {
-    numbered(map::sound_settle(words, at))
+    map::sound_settle(words, at).into()
 }
 
 // Go to the next pair, and tell it; after the last the cursor is off the end.
@@ -195,7 +194,7 @@ pub extern "C" fn recorder_sound_next(words: &[u32], at: Cursor) -> Moved
     requires { Stood words.now at }
     ensures { AnswersMove to_next at words.now words.now result.answer result.cursor }
 {
-    numbered(map::sound_next(words, at))
+    map::sound_next(words, at).into()
 }
 
 // Go to the pair before, and tell it; on the first pair stay, and tell none.
@@ -204,7 +203,7 @@ pub extern "C" fn recorder_sound_prev(words: &[u32], at: Cursor) -> Moved
     requires { Stood words.now at }
     ensures { AnswersMove to_prev at words.now words.now result.answer result.cursor }
 {
-    numbered(map::sound_prev(words, at))
+    map::sound_prev(words, at).into()
 }
 
 // Takes out the pair that the cursor is on, tells its value, and goes to the next; on no pair nothing happens.
@@ -213,5 +212,5 @@ pub extern "C" fn recorder_sound_remove_at(words: &mut [u32], at: Cursor) -> Mov
     requires { Stood words.old at }
     ensures { AnswersMove to_remove at words.old words.new result.answer result.cursor }
 {
-    numbered(map::sound_remove_at(words, at))
+    map::sound_remove_at(words, at).into()
 }

@@ -7,7 +7,7 @@ use lib.Dec.{ltb, leb, eqb}
 use lib.ListN.{length, take}
 use borrow.Author.Tests.{ltb-true, ltb-false, leb-true}
 use Rattle.forest.specs.declared.Answer.{Answer}
-use Rattle.forest.specs.Answers.{answer_of}
+use Rattle.forest.specs.Answers.{answer_of, Reply}
 use Rattle.forest.specs.Pools.{format_answer}
 use Rattle.forest.proofs.ListLaws.{test, is, isnt}
 use Rattle.requests.specs.declared.Stage.{Stage}

@@ -4,7 +4,6 @@ use Rattle.std.specs.declared.result.Result.{Result}
 use Rattle.std.proofs.Math.Option.{Option, none, some}
 use Rattle.forest.specs.declared.Answer.{Answer}
 use Rattle.forest.specs.declared.Refusal.TheVariants.{NoFormat}
-use Rattle.forest.specs.declared.Reply.TheVariants.{Refused}
 use Rattle.forest.specs.Answers.{refusal, answer_of}
 use Rattle.forest.specs.Pools.{Pool, Call, put, remove, get, call, fresh, formatted}
 use Rattle.requests.specs.declared.Call.{Call as Asked}
@@ -85,7 +84,7 @@ pooled b =
     cond (ltb (length b) 8) stop
     (cond (formatted (word_at b 0) (word_at b 4) (sized (word_at b 0) (word_at b 4)))
     (counted (drop 8 b) (fresh (word_at b 0) (word_at b 4)))
-    (answer_of (Refused NoFormat) ∷ []))
+    (answer_of (Err NoFormat) ∷ []))
 
 -- the first word
 unfoldable pub replayed : List ℕ → List Answer

@@ -177,7 +177,7 @@ fn after_kind(b: &[u8]) -> Turn
 fn after_format(words: usize, reply: Reply) -> Turn
     ensures { result ≡ after_format words (answer_of reply) }
 {
-    let answer = forest::numbered(reply);
+    let answer = Answer::from(reply);
     if answer.number == 0 {
         return go(Stage::Count(words));
     }
@@ -218,9 +218,9 @@ fn answer_request(ws: &mut [u32], kind: u32, tree: u32, key: u32, value: u32) ->
     ensures { Heeds (asked kind tree key value) ws.old ws.new result }
 {
     match Call::try_from(kind) {
-        Ok(Call::Put) => forest::numbered(map::put(ws, tree, key, value)),
-        Ok(Call::Remove) => forest::numbered(map::remove(ws, tree, key)),
-        Ok(Call::Get) => forest::numbered(map::get(ws, tree, key)),
+        Ok(Call::Put) => map::put(ws, tree, key, value).into(),
+        Ok(Call::Remove) => map::remove(ws, tree, key).into(),
+        Ok(Call::Get) => map::get(ws, tree, key).into(),
         Err(fault) => Answer::from(fault),
     }
 }
