@@ -21,6 +21,7 @@ use Rattle.forest.proofs.CursorCalls.{move-refused, move-done}
 use Rattle.path.specs.Cores.{Ready, Of, Look}
 use Rattle.path.specs.declared.Tree.{Tree}
 use Rattle.path.proofs.Trees.{tree_ready}
+use Rattle.moves.specs.declared.MapCursor.{MapCursor}
 use Rattle.stand.specs.Runs.{Tells}
 use Rattle.map.specs.Gates.{Gates, Admits, Allows, Stood, Told, held_at}
 use Rattle.map.proofs.Promising.{of, trees_of, refused_moves, blocked-place, tree_there, free_reads, stands-standing}
@@ -48,6 +49,10 @@ of_tree {ws} {tree} {x} P e q = subst (λ (u : List ℕ). P u tree) e.0 (subst (
 
 pub gate_ready : {ws : List ℕ} {tree : ℕ} {x : Tree} → (x.words.now ≡ ws) × (x.number ≡ tree) → Ready ws x.trees tree
 gate_ready {x = x} e = of_tree {x = x} (λ u n. Ready u x.trees n) e (tree_ready x)
+
+-- and of a cursor
+pub of_cursor : {ws : List ℕ} {at : Cursor} {x : MapCursor} (P : List ℕ → Cursor → Type 0) → (x.words.now ≡ ws) × (x.cursor ≡ at) → P x.words.now x.cursor → P ws at
+of_cursor {ws} {at} {x} P e q = subst (λ (u : List ℕ). P u at) e.0 (subst (λ (d : Cursor). P x.words.now d) e.1 q)
 
 shut_admits : (ws : List ℕ) (c : Cursor) (y : Refusal) → ((p : Pool) → Of ws p → (v : Move) → reads v ≡ true → blocked v c p ≡ some y) → Admits ws c (Err y)
 shut_admits ws c y b = record {

@@ -1,4 +1,8 @@
-use Rattle.forest.specs.Cursors.{to_first}
+use mathlib.Core.Path.{subst, ◌∙◌}
+use Rattle.forest.specs.Cursors.{first, to_first}
+use Rattle.path.specs.Cores.{Goes}
+use Rattle.moves.specs.Moves.{Seen}
+use Rattle.map.proofs.Gating.{of_tree, gate_ready}
 use Rattle.map.proofs.Promising.{gated_moves, first_moves}
 use Rattle.map.proofs.sound_first.Goals as goal
 
@@ -8,5 +12,8 @@ returns-in-Err c =
 
 pub returns-in-Ok : goal.returns-in-Ok
 returns-in-Ok c =
-    let y = c.gate.ensures.passes c.in-Ok.t c.in-Ok.is in
-    first_moves c.args.ws.now _ c.args.at y _ _ c.first-c.ensures c.seen.ensures
+    let e = c.gate.ensures.passes c.in-Ok.tree c.in-Ok.is in
+    let d = c.goto_first.result.cursor in
+    first_moves c.args.ws.now _ c.args.at (gate_ready e) _ _
+    (of_tree (λ u n. Goes first u n d) e c.goto_first.ensures.place)
+    (subst (λ u. Seen u d c.seen.result) (c.goto_first.ensures.words ∙ e.0) c.seen.ensures)

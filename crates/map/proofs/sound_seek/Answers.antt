@@ -1,13 +1,9 @@
+use mathlib.Core.Path.{subst, ◌∙◌}
 use Rattle.forest.specs.Cursors.{seek, to_key}
-use Rattle.path.proofs.Made.{fits-seek, gone_ready, gone_standing}
+use Rattle.path.specs.Cores.{Goes, Sees}
+use Rattle.map.proofs.Gating.{of_tree, gate_ready}
 use Rattle.map.proofs.Promising.{gated_moves, seek_moves}
 use Rattle.map.proofs.sound_seek.Goals as goal
-
-pub look_at-requires : goal.look_at-requires
-look_at-requires c = let y = c.gate.ensures.passes c.in-Ok.t c.in-Ok.is in record {
-  ready = gone_ready (seek c.args.key) (fits-seek c.args.key) c.args.ws.now _ c.args.at.tree _ y c.find-c.ensures;
-  standing = gone_standing (seek c.args.key) (fits-seek c.args.key) c.args.ws.now _ c.args.at.tree _ y c.find-c.ensures;
-}
 
 pub returns-in-Err : goal.returns-in-Err
 returns-in-Err c =
@@ -15,5 +11,9 @@ returns-in-Err c =
 
 pub returns-in-Ok : goal.returns-in-Ok
 returns-in-Ok c =
-    let y = c.gate.ensures.passes c.in-Ok.t c.in-Ok.is in
-    seek_moves c.args.ws.now _ c.args.at y c.args.key _ _ _ c.find-c.ensures c.look_at.ensures c.held.ensures
+    let e = c.gate.ensures.passes c.in-Ok.tree c.in-Ok.is in
+    let d = c.goto-there.result.cursor in
+    seek_moves c.args.ws.now _ c.args.at (gate_ready e) c.args.key _ _ _
+    (of_tree (λ u n. Goes (seek c.args.key) u n d) e c.goto-there.ensures.place)
+    (subst (λ u. Sees u d c.look.result) (c.goto-there.ensures.words ∙ e.0) c.look.ensures)
+    c.held.ensures
