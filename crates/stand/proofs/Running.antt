@@ -21,7 +21,7 @@ use Rattle.path.specs.Ways.{base, block, Deep, Lies}
 use Rattle.path.specs.Cores.{Ready, Of}
 use Rattle.path.proofs.NodeWords.{grouped}
 use Rattle.path.proofs.Laid.{Laid, RowIn, RowsIn, size_bounds, ParentRow, parent_row, child_at, child_of, parent_in, offset_in, inside, leaf_first, inner_first}
-use Rattle.path.proofs.Steps.{first_word, link_word_at, lies_of, child_deep}
+use Rattle.path.proofs.Steps.{first_word, link_word_at, inner_bounds, lies_of, child_deep}
 use Rattle.path.proofs.Roots.{root_is, lies_there, some_root}
 use Rattle.walk.specs.Walks.{zeros}
 use Rattle.stand.specs.Runs.{ended, runs_from, levels_from, stands_at, Tells}
@@ -180,59 +180,29 @@ tells_by ws t c r y e = record { tells = λ p o. e ∙ stands_words ws t c y p o
 
 -- Each return of the code
 
-zeros-drop : (xs : List ℕ) (a r : ℕ) → a + r ≡ length xs → zeros xs a r ≡ all_zero (drop a xs)
-zeros-drop xs a zero h = sym (ap all_zero (drop_all xs a (omega arith)))
+pub zeros_drop : (xs : List ℕ) (a r : ℕ) → a + r ≡ length xs → zeros xs a r ≡ all_zero (drop a xs)
+zeros_drop xs a zero h = sym (ap all_zero (drop_all xs a (omega arith)))
   where
     drop_all : (ys : List ℕ) (b : ℕ) → length ys ≤ b → drop b ys ≡ []
     drop_all [] zero k = refl
     drop_all [] (suc b) k = refl
     drop_all (y ∷ ys) zero k = absurd (omega arith)
     drop_all (y ∷ ys) (suc b) k = drop_all ys b (omega arith)
-zeros-drop xs a (suc r) h = rw (drop-cons xs a 0 (omega arith)) (ap (λ (b : Bool). eqb (get_or xs a 0) 0 && b) (zeros-drop xs (suc a) r (omega arith)))
+zeros_drop xs a (suc r) h = rw (drop-cons xs a 0 (omega arith)) (ap (λ (b : Bool). eqb (get_or xs a 0) 0 && b) (zeros_drop xs (suc a) r (omega arith)))
 
-pub room : (s n : ℕ) → s ≤ 16 → n ≡ 16 → s + (16 - s) ≤ n
-room s n h e = omega arith
+module _ (c : Cursor) (h : clean c ≡ true) where
+  pub clean_size : c.size ≤ most_levels
+  unfolding clean
+  clean_size = leb-true _ _ (both (leb c.size most_levels) (all_zero (drop c.size c.nodes) && all_zero (drop c.size c.places)) h).0
 
-module _ (ws : List ℕ) (t n : ℕ) (c : Cursor) where
-  pub stands_large : 16 < c.size → false ≡ stands_at ws t n c
-  unfolding stands_at clean
-  stands_large h = simp (lt-leb c.size most_levels h)
+module _ (ws : List ℕ) (t n : ℕ) (c : Cursor) (h : clean c ≡ true) (e : c.size ≡ 0 → ⊥) where
+  pub stands_empty : n ≡ 0 → false ≡ stands_at ws t n c
+  unfolding stands_at
+  stands_empty k = simp (h, ne_eqb c.size 0 e, eq-eqb n 0 k)
 
-  module _ (h : c.size ≤ 16) (ln : length c.nodes ≡ 16) (lp : length c.places ≡ 16) where
-    pub stands_nodes : zeros c.nodes c.size (16 - c.size) ≡ false → false ≡ stands_at ws t n c
-    unfolding stands_at clean
-    stands_nodes z = simp (le-leb c.size most_levels h, sym (zeros-drop c.nodes c.size (16 - c.size) (omega arith)) ∙ z)
-
-    pub stands_places : zeros c.nodes c.size (16 - c.size) ≡ true → zeros c.places c.size (16 - c.size) ≡ false → false ≡ stands_at ws t n c
-    unfolding stands_at clean
-    stands_places y z =
-        simp (
-          le-leb c.size most_levels h,
-          sym (zeros-drop c.nodes c.size (16 - c.size) (omega arith)) ∙ y,
-          sym (zeros-drop c.places c.size (16 - c.size) (omega arith)) ∙ z,
-        )
-
-    module _ (y : zeros c.nodes c.size (16 - c.size) ≡ true) (z : zeros c.places c.size (16 - c.size) ≡ true) where
-      stands-clean : clean c ≡ true
-      unfolding clean
-      stands-clean =
-          simp (
-            le-leb c.size most_levels h,
-            sym (zeros-drop c.nodes c.size (16 - c.size) (omega arith)) ∙ y,
-            sym (zeros-drop c.places c.size (16 - c.size) (omega arith)) ∙ z,
-          )
-
-      pub stands_off : c.size ≡ 0 → true ≡ stands_at ws t n c
-      unfolding stands_at
-      stands_off e = simp (stands-clean, eq-eqb c.size 0 e)
-
-      pub stands_empty : (c.size ≡ 0 → ⊥) → n ≡ 0 → false ≡ stands_at ws t n c
-      unfolding stands_at
-      stands_empty e k = simp (stands-clean, ne_eqb c.size 0 e, eq-eqb n 0 k)
-
-      pub stands-runs : (r : Bool) → (c.size ≡ 0 → ⊥) → (n ≡ 0 → ⊥) → r ≡ runs_from ws t n (levels_from c 0) → r ≡ stands_at ws t n c
-      unfolding stands_at
-      stands-runs r e k q = simp (stands-clean, ne_eqb c.size 0 e, ne_eqb n 0 k) q
+  pub stands_runs : (r : Bool) → (n ≡ 0 → ⊥) → r ≡ runs_from ws t n (levels_from c 0) → r ≡ stands_at ws t n c
+  unfolding stands_at
+  stands_runs r k q = simp (h, ne_eqb c.size 0 e, ne_eqb n 0 k) q
 
 -- the levels from l on, the first of them apart
 levels-cons : (c : Cursor) (l : ℕ) → l < c.size → levels_from c l ≡ (get_or c.nodes l 0, get_or c.places l 0) ∷ levels_from c (l + 1)
@@ -242,21 +212,18 @@ levels-cons c l h =
     simp (z, get_or-drop, drop-drop, y)
 
 module _ (ws : List ℕ) (t n : ℕ) (c : Cursor) (l : ℕ) where
-  pub runs_end : c.size ≤ l → false ≡ runs_from ws t n (levels_from c l)
-  runs_end h = let z : c.size - l ≡ 0 = omega arith in rw z
-
   module _ (h : l < c.size) where
     -- the node of level l lies in the words, and so does its child at the next
     pub node_lies : Deep (c.size - l) ws t n → Lies ws t n
     node_lies d = lies_of (c.size - l) ws t n (λ (z : c.size - l ≡ 0). omega arith) d
 
+    pub inner_word : Deep (c.size - l) ws t n → get_or ws (base t n) 0 < 32 → (16 ≤ get_or ws (base t n) 0) × (get_or ws (base t n) 0 ≤ 23)
+    inner_word d w = inner_bounds ws t n (node_lies d) w
+
     pub child_below : Deep (c.size - l) ws t n → get_or ws (base t n) 0 < 32 → get_or c.places l 0 ≤ get_or ws (base t n) 0 - 16 → Deep (c.size - (l + 1)) ws t (get_or ws (base t n + 8 + get_or c.places l 0) 0)
     child_below d w k =
         let e : c.size - l - 1 ≡ c.size - (l + 1) = omega arith in
         rw (← e) (child_deep (c.size - l) ws t n (get_or c.places l 0) (λ (z : c.size - l ≡ 0). omega arith) d w k)
-
-    pub runs_other : (get_or c.nodes l 0 ≡ n → ⊥) → false ≡ runs_from ws t n (levels_from c l)
-    runs_other k = rw (levels-cons c l h, ne_eqb (get_or c.nodes l 0) n k)
 
     module _ (e : get_or c.nodes l 0 ≡ n) where
       pub runs_long : 32 ≤ get_or ws (base t n) 0 → l + 1 < c.size → false ≡ runs_from ws t n (levels_from c l)

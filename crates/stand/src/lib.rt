@@ -3,6 +3,7 @@
 
 ghost use Rattle.std.specs.Prelude.{◌≡◌, ◌-◌, ◌≤◌};
 ghost use Rattle.forest.specs.Sizes.{most_trees, most_levels};
+ghost use Rattle.forest.specs.Cursors.{clean};
 ghost use Rattle.path.specs.Ways.{Deep};
 ghost use Rattle.path.specs.Cores.{Ready};
 ghost use Rattle.stand.specs.Runs.{runs_from, levels_from, Tells};
@@ -16,26 +17,27 @@ fn runs_from(ws: &[u32], t: usize, c: Cursor, l: usize, node: u32) -> bool
     ensures { result ≡ runs_from ws.now t node (levels_from c l) }
 {
     let size = c.size as usize;
-    if size <= l {
+    if size <= l || c.nodes[l] != node {
         return false;
     }
-    let n = c.nodes[l];
     let p = c.places[l];
-    if n != node {
-        return false;
-    }
     let b = t + 16 * (node as usize) - 14;
     let w = ws[b];
     if 32 <= w {
-        if l + 1 < size {
-            return false;
-        }
-        return p <= w - 32;
+        return l + 1 == size && p <= w - 32;
     }
-    if p > w - 16 {
-        return false;
-    }
-    runs_from(ws, t, c, l + 1, ws[b + 8 + p as usize])
+    p <= w - 16 && runs_from(ws, t, c, l + 1, ws[b + 8 + p as usize])
+}
+
+// Whether the size of a cursor is at most 16 and its unused levels hold 0.
+#[tactic(auto, using(crate::proofs::Running::zeros_drop), unfolding(forest::specs::Cursors::clean))]
+fn is_clean(c: Cursor) -> bool
+    ensures { result ≡ clean c }
+{
+    let size = c.size as usize;
+    size <= 16
+        && walk::are_zero(&c.nodes, size, 16 - size)
+        && walk::are_zero(&c.places, size, 16 - size)
 }
 
 // Whether a cursor stands.
@@ -43,25 +45,12 @@ pub fn stands(ws: &[u32], t: usize, c: Cursor) -> bool
     requires { Ready ws.now t c.tree }
     ensures { Tells ws.now c result }
 {
-    let size = c.size;
-    if 16 < size {
+    if !is_clean(c) {
         return false;
     }
-    let s = size as usize;
-    let ns = c.nodes;
-    let ps = c.places;
-    if !walk::are_zero(&ns, s, 16 - s) {
-        return false;
-    }
-    if !walk::are_zero(&ps, s, 16 - s) {
-        return false;
-    }
-    if s == 0 {
+    if c.size == 0 {
         return true;
     }
     let root = ws[1 + c.tree as usize];
-    if root == 0 {
-        return false;
-    }
-    runs_from(ws, t, c, 0, root)
+    root != 0 && runs_from(ws, t, c, 0, root)
 }
