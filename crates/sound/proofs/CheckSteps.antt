@@ -74,12 +74,6 @@ module _ (ws : List ℕ) (T N r i : ℕ) (ms : List ℕ) where
   one_more : i < r → r - i ≡ suc (r - (i + 1))
   one_more h = omega arith
 
-  pub trees_end : r ≤ i → trees ws T N leaf_least (r - i) (1 + i) ms ≡ Some ms
-  trees_end h = let d : r - i ≡ 0 = omega arith in rw d
-
-  pub frees_end : (s : ℕ) → r ≤ i → free_walk ws T N (r - i) (s + i) ms ≡ Some ms
-  frees_end s h = let d : r - i ≡ 0 = omega arith in rw d
-
   module _ (h : i < r) (n : ℕ) where
     pub trees_no : n ≡ get_or ws (1 + i) 0 → None ≡ tree_walk ws T N leaf_least n ms → trees ws T N leaf_least (r - i) (1 + i) ms ≡ None
     trees_no g e = rw (one_more h, ← g, ← e)

@@ -53,9 +53,6 @@ module _ (ws : List ℕ) (a r i : ℕ) where
   pub climbs_off : (q k : ℕ) → i < r → k ≡ get_or ws (a + i) 0 → k < q → climbs q (items ws (a + i) (a + 7 + i) (r - i)) ≡ false
   climbs_off q k h d e = let s : r - i ≡ suc (r - (i + 1)) = omega arith in rw (s, ← d, lt-leb q k e)
 
-  pub climbs_end : (q : ℕ) → r ≤ i → climbs q (items ws (a + i) (a + 7 + i) (r - i)) ≡ true
-  climbs_end q h = let e : r - i ≡ 0 = omega arith in rw e
-
 -- Marks
 pub has_read : (ms : List ℕ) (n : ℕ) → 1 ≤ n → eqb (bit (get_or ms ((n - 1) / 64) 0) ((n - 1) % 64)) 1 ≡ has ms n
 unfolding has
