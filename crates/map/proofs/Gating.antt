@@ -93,29 +93,25 @@ module _ (ws : List ℕ) (c : Cursor) where
   pub stood_ready : (t : ℕ) → Stood ws c → t ≡ get_or ws 0 0 → Ready ws t c.tree
   stood_ready t z e = record { sound = z.sound; trees = e; there = rw e z.there }
 
-  module _ (g : Result ⊤ Refusal) (x : Admits ws c g) where
-    told_yes : Stood ws c → Told ws c true
-    unfolding move_from
-    told_yes z = record {
-      tells = λ p w b.
-          rw (move-done to_next c p (free_reads ws (get_or ws 0 0) c (stood_ready (get_or ws 0 0) z refl) z.standing to_next refl p (of ws p w b)))
-          (told-kept (pair_at (leaves (tree_of p c.tree)) (next (leaves (tree_of p c.tree)) (spot_of (tree_of p c.tree) (path_in c)))));
-      yes = λ q. z;
-    }
+  told_yes : Stood ws c → Told ws c true
+  unfolding move_from
+  told_yes z = record {
+    tells = λ p w b.
+        rw (move-done to_next c p (free_reads ws (get_or ws 0 0) c (stood_ready (get_or ws 0 0) z refl) z.standing to_next refl p (of ws p w b)))
+        (told-kept (pair_at (leaves (tree_of p c.tree)) (next (leaves (tree_of p c.tree)) (spot_of (tree_of p c.tree) (path_in c)))));
+    yes = λ q. z;
+  }
 
-    told_no : (y : Refusal) → g ≡ Err y → Told ws c false
-    told_no y e = record {
-      tells = λ p w b. rw (move-refused to_next c p y (x.shut y e p (of ws p w b) to_next refl));
-      yes = λ q. absurd (true≢false (sym q));
-    }
+  told_no : (y : Refusal) → Admits ws c (Err y) → Told ws c false
+  told_no y x = record {
+    tells = λ p w b. rw (move-refused to_next c p y (x.shut y refl p (of ws p w b) to_next refl));
+    yes = λ q. absurd (true≢false (sym q));
+  }
 
-    -- whether the gate let it through
-    pub told_ok : Told ws c (is_ok g)
-    told_ok = go g refl
-      where
-        go : (u : Result ⊤ Refusal) → g ≡ u → Told ws c (is_ok u)
-        go (Ok v) e = told_yes (x.stood (ap is_ok e))
-        go (Err y) e = told_no y e
+  -- whether the gate lets it through
+  pub told_ok : (g : Result ⊤ Refusal) → Admits ws c g → Told ws c (is_ok g)
+  told_ok (Ok v) x = told_yes (x.stood refl)
+  told_ok (Err y) x = told_no y x
 
 -- the value of a key
 pub held_other : (l : Look) (k v key : ℕ) → l ≡ Some (k, v) → (k ≡ key → ⊥) → None ≡ held_at l key

@@ -1,4 +1,4 @@
--- DEFINITIONS. The first refusals of every call, and what a value at a look is
+-- DEFINITIONS. The check and the first refusals of every call, and what a value at a look is
 use Rattle.std.specs.Prelude.{◌≡◌, List, Bool, true, cond, ℕ, ◌<◌, get_or, eqb, ⊤, Result, Ok, Err, Some, None, IsOk}
 use Rattle.std.specs.Prelude as rust
 use Rattle.std.proofs.Math.Option.{Option, some}
@@ -32,6 +32,11 @@ pub record Stood (ws : List ℕ) (c : Cursor) : Type 0 where
   pub there : c.tree < get_or ws 0 0
   pub standing : Standing ws c
 
+-- whether it does: yes exactly where `next`, as every move that reads the cursor, is not refused
+pub record Told (ws : List ℕ) (c : Cursor) (r : Bool) : Type 0 where
+  pub tells : (p : Pool) → WellFormed leaf_least p → encode p ≡ ws → r ≡ kept (move to_next c p).answer
+  pub yes : r ≡ true → Stood ws c
+
 -- the gate for a cursor: it stands; else the reason against every move that reads it
 pub record Admits (ws : List ℕ) (c : Cursor) (r : Result ⊤ Refusal) : Type 0 where
   pub stood : IsOk r → Stood ws c
@@ -45,11 +50,6 @@ pub record Allows (ws : List ℕ) (c : Cursor) (r : Result ⊤ Refusal) : Type 0
 -- a refused move: the cursor comes back
 abbrev pub turned_back : Refusal → Cursor → Moved
 turned_back x c = record { reply = Err x; cursor = c }
-
--- whether it does: yes exactly where `next`, as every move that reads the cursor, is not refused
-pub record Told (ws : List ℕ) (c : Cursor) (r : Bool) : Type 0 where
-  pub tells : (p : Pool) → WellFormed leaf_least p → encode p ≡ ws → r ≡ kept (move to_next c p).answer
-  pub yes : r ≡ true → Stood ws c
 
 -- the value of a key where it would be
 abbrev pub held_at : Look → ℕ → rust.Option Hit
