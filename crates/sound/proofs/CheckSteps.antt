@@ -5,7 +5,7 @@ use Rattle.std.specs.List.{list_all, range_with_len}
 use Rattle.forest.specs.Sizes.{leaf_least}
 use mathlib.Core.Path.{◌≡◌, refl, sym, ap, ◌∙◌}
 use mathlib.Core.List.{List}
-use mathlib.Core.Bool.{Bool, true, false, ◌&&◌}
+use mathlib.Core.Bool.{Bool, true, false, ◌&&◌, not}
 use Prim.Native.Nat.{ℕ, zero, suc, ◌+◌, ◌-◌, ◌*◌, ◌≤◌, ◌<◌}
 use native.Mathlib.Omega.{arith}
 use lib.ListN.{length, get_or, replicate, get_or-eq_default}
@@ -86,7 +86,7 @@ module _ (ws : List ℕ) (T N r i : ℕ) (ms : List ℕ) where
       pub frees_no : meets N ms n ≡ false → free_walk ws T N (r - i) (s + i) ms ≡ None
       frees_no m = rw (one_more h, ← g, m)
 
-      module _ (b : ℕ) (p : Some b ≡ place_of T N n) (f : has ms n ≡ false) where
+      module _ (b : ℕ) (p : Some b ≡ place_of T N n) (f : true ≡ not (has ms n)) where
         may : Met T N n ms b
         may = met T N n ms b p f
 

@@ -79,9 +79,9 @@ marked true true = refl
 marked true false = refl
 marked false y = refl
 
-pub met_before : (N n : ℕ) (ms : List ℕ) → has ms n ≡ true → meets N ms n ≡ false
+pub met_before : (N n : ℕ) (ms : List ℕ) → false ≡ not (has ms n) → meets N ms n ≡ false
 unfolding meets
-met_before N n ms f = rw f (marked (leb 1 n) (leb n N))
+met_before N n ms f = rw (← f) (marked (leb 1 n) (leb n N))
 
 module _ (T N n : ℕ) (ms : List ℕ) where
   pub not_there : None ≡ place_of T N n → meets N ms n ≡ false
@@ -95,12 +95,12 @@ module _ (T N n : ℕ) (ms : List ℕ) where
     pub may : meets N ms n ≡ true
     pub there : place T n ≡ b
 
-  pub met : (b : ℕ) → Some b ≡ place_of T N n → has ms n ≡ false → Met b
+  pub met : (b : ℕ) → Some b ≡ place_of T N n → true ≡ not (has ms n) → Met b
   unfolding meets
   met b p f =
       let r = cond_some (leb 1 n && leb n N) (place T n) b (sym p) in
       let s = both (leb 1 n) (leb n N) r.0 in
-      record { may = rw (s.0, s.1, f); there = r.1 }
+      record { may = rw (s.0, s.1, ← f); there = r.1 }
 
 -- Nodes: how many links
 module _ (ws : List ℕ) (b a t l c : ℕ) where

@@ -3,7 +3,7 @@ use Rattle.std.proofs.Common.{Option, Some, None, option_and_then}
 use Rattle.forest.specs.Sizes.{leaf_least}
 use mathlib.Core.Path.{◌≡◌, sym, ◌∙◌}
 use mathlib.Core.List.{List}
-use mathlib.Core.Bool.{Bool, false, cond}
+use mathlib.Core.Bool.{Bool, true, false, cond, not}
 use Prim.Native.Nat.{ℕ, zero, suc, ◌+◌, ◌-◌, ◌≤◌, ◌<◌}
 use native.Mathlib.Omega.{arith}
 use lib.ListN.{get_or}
@@ -32,7 +32,7 @@ walk_no ws T N (suc h) e n ms q f = rw f
 
 module _ (ws : List ℕ) (T N h : ℕ) (e : Bool) (n : ℕ) (ms : List ℕ) (q : ℕ) where
   -- b is where its words start, seen the marks with its own
-  module _ (b : ℕ) (seen : List ℕ) (p : Some b ≡ place_of T N n) (f : has ms n ≡ false) (m : seen ≡ mark ms n) where
+  module _ (b : ℕ) (seen : List ℕ) (p : Some b ≡ place_of T N n) (f : true ≡ not (has ms n)) (m : seen ≡ mark ms n) where
     may : Met T N n ms b
     may = met T N n ms b p f
 
