@@ -86,11 +86,6 @@ fn cursor(r: &[u32; 37], at: usize) -> Cursor
     }
 }
 
-// Tree, size, nodes and places are the same.
-fn same_cursor(a: &Cursor, b: &Cursor) -> bool {
-    a.tree == b.tree && a.size == b.size && a.nodes == b.nodes && a.places == b.places
-}
-
 // Number, found, key and value are the recorded ones.
 fn same_answer(a: &Answer, r: &[u32; 37]) -> bool {
     a.number == r[4] && u32::from(a.found) == r[5] && a.key == r[6] && a.value == r[7]
@@ -121,7 +116,7 @@ pub fn judge(ws: &mut [u32], call: Call, r: &[u32; 37]) -> Result<(), Differs> {
     if !same_answer(&Answer::from(m.reply), r) {
         return Err(Differs::Answer);
     }
-    if !same_cursor(&m.cursor, &cursor(r, 24)) {
+    if m.cursor != cursor(r, 24) {
         return Err(Differs::Cursor);
     }
     if fold(ws) != r[8] {
