@@ -8,7 +8,7 @@ ghost use Rattle.path.specs.declared.Way.{Way};
 ghost use Rattle.path.specs.Ways.{base, descend, Deep};
 ghost use Rattle.path.specs.Levels.{extended};
 ghost use Rattle.path.specs.Cores.{Ready, Standing};
-ghost use Rattle.moves.specs.Moves.{Level, branched, entered, at_first, Steps, Seen, Back, next_leaf, prev_leaf};
+ghost use Rattle.moves.specs.Moves.{Level, branched, entered, at_first, Steps, Seen, Back, at_entry, next_leaf, prev_leaf};
 
 use forest::{Cursor, Moved, Reply};
 use path::Way;
@@ -27,6 +27,7 @@ fn branch_off(ws: &[u32], t: usize, way: Way, c: Cursor, l: usize, place: usize)
 }
 
 // Go to the first pair of the next leaf, or off the end if there is none.
+// It shares `branch_off` with `prev_leaf`, and no more: the level, the place and the end without a level are each its own.
 fn next_node(ws: &[u32], t: usize, c: Cursor) -> Cursor
     requires ready { Ready ws.now t c.tree }
     requires standing { Standing ws.now c }
@@ -88,6 +89,19 @@ fn set_entry(mut c: Cursor, l: usize, entry: u32) -> Cursor
     c
 }
 
+// Go to a place of the leaf; where the leaf has no such place, to the first pair of the next leaf.
+fn goto_entry(ws: &[u32], t: usize, c: Cursor, entry: u32) -> Cursor
+    requires ready { Ready ws.now t c.tree }
+    requires standing { Standing ws.now c }
+    requires le_size { 1 ≤ c.size }
+    ensures { Steps (at_entry entry) ws.now c result }
+{
+    if entry < leaf_entries(ws, t, c) {
+        return set_entry(c, c.size as usize - 1, entry);
+    }
+    next_node(ws, t, c)
+}
+
 // Go to the next pair.
 pub fn next(ws: &[u32], t: usize, c: Cursor) -> Cursor
     requires ready { Ready ws.now t c.tree }
@@ -98,12 +112,7 @@ pub fn next(ws: &[u32], t: usize, c: Cursor) -> Cursor
     if size == 0 {
         return c;
     }
-    let entry = c.places[size - 1];
-    let n = leaf_entries(ws, t, c);
-    if entry + 1 < n {
-        return set_entry(c, size - 1, entry + 1);
-    }
-    next_node(ws, t, c)
+    goto_entry(ws, t, c, c.places[size - 1] + 1)
 }
 
 // From one past a leaf's last entry go to the first pair of the next leaf.
@@ -116,12 +125,7 @@ pub fn normalize(ws: &[u32], t: usize, c: Cursor) -> Cursor
     if size == 0 {
         return c;
     }
-    let entry = c.places[size - 1];
-    let n = leaf_entries(ws, t, c);
-    if entry < n {
-        return c;
-    }
-    next_node(ws, t, c)
+    goto_entry(ws, t, c, c.places[size - 1])
 }
 
 // Whether a cursor is on the first pair of its tree.

@@ -1,9 +1,12 @@
 use mathlib.Core.Path.{refl}
 use native.Mathlib.Omega.{arith}
+use native.Mathlib.Numerals.{add-one}
+use Prim.Native.Nat.{◌+◌, ◌-◌}
+use lib.ListN.{get_or}
 use Rattle.forest.specs.Cursors.{next}
-use Rattle.moves.specs.Moves.{next_leaf}
+use Rattle.moves.specs.Moves.{at_entry}
 use Rattle.path.proofs.Seats.{leafy}
-use Rattle.moves.proofs.Moving.{step_off, step_as, step_entry, next_within, next_beyond}
+use Rattle.moves.proofs.Moving.{step_off, step_as}
 use Rattle.moves.proofs.next.Goals as goal
 
 pub returns-then-size-eq0 : goal.returns-then-size-eq0
@@ -11,24 +14,13 @@ returns-then-size-eq0 c =
     step_off next c.args.ws.now c.args.c c.if-size-eq0.true (λ L. refl)
 
 pub bounds-c-size : goal.bounds-c-size
-bounds-c-size c =
-    let k = leafy c.args.ws.now c.args.t c.args.c c.requires.ready c.requires.standing (omega arith) in
-    omega arith
+bounds-c-size c = omega (arith, (leafy c.args.ws.now c.args.t c.args.c c.requires.ready c.requires.standing (omega arith)).deep)
 
-pub overflow_add-entry : goal.overflow_add-entry
-overflow_add-entry c =
+pub overflow_add-c : goal.overflow_add-c
+overflow_add-c c =
     let k = leafy c.args.ws.now c.args.t c.args.c c.requires.ready c.requires.standing (omega arith) in
-    omega arith
-
-pub set_entry-requires : goal.set_entry-requires
-set_entry-requires c =
-    let k = leafy c.args.ws.now c.args.t c.args.c c.requires.ready c.requires.standing (omega arith) in
-    omega arith
-
-pub returns-then-entry-n : goal.returns-then-entry-n
-returns-then-entry-n c =
-    step_entry c.args.ws.now c.args.t c.args.c c.requires.ready (omega arith) next _ _ c.set_entry.ensures (λ L j e q r. rw r (next_within L j e c.leaf_entries-n.result (omega (arith, q, c.leaf_entries-n.ensures.0)) (rw (← r) c.if-entry-n.true)))
+    omega (arith, k.place, k.most)
 
 pub returns : goal.returns
 returns c =
-    step_as c.args.ws.now c.args.t c.args.c c.requires.ready (omega arith) next next_leaf _ c.next_node.ensures (λ L j e q r. next_beyond L j e c.leaf_entries-n.result (omega (arith, q, c.leaf_entries-n.ensures.0)) (rw (← r) c.if-entry-n.false))
+    step_as c.args.ws.now c.args.t c.args.c c.requires.ready (omega arith) next (at_entry (get_or c.args.c.places (c.args.c.size - 1) 0 + 1)) _ c.goto_entry.ensures (λ L j e q r. rw (r, add-one))
