@@ -8,7 +8,7 @@ ghost use Rattle.path.specs.Ways.{base};
 ghost use Rattle.sound.specs.Checks.{checked};
 ghost use Rattle.path.specs.Cores.{Standing, Goes, Sees};
 ghost use Rattle.stand.specs.Runs.{stands_at};
-ghost use Rattle.moves.specs.Moves.{Level, branched, entered, at_first, Steps, Seen, Back, next_leaf, prev_leaf};
+ghost use Rattle.moves.specs.Moves.{Level, branched, entered, at_first, Steps, Seen, Back, at_entry, next_leaf, prev_leaf};
 
 use forest::{Cursor, Hit, Moved};
 use path::{Tree, Way};
@@ -33,6 +33,19 @@ fn set_entry(mut c: Cursor, l: usize, entry: u32) -> Cursor
 {
     c.places[l] = entry;
     c
+}
+
+// Go to a place of the leaf; where the leaf has no such place, to the first pair of the next leaf.
+fn goto_entry(ws: &[u32], t: usize, c: Cursor, entry: u32) -> Cursor
+    requires ready { Ready ws.now t c.tree }
+    requires standing { Standing ws.now c }
+    requires le_size { 1 ≤ c.size }
+    ensures { Steps (at_entry entry) ws.now c result }
+{
+    if entry < leaf_entries(ws, t, c) {
+        return set_entry(c, c.size as usize - 1, entry);
+    }
+    next_node(ws, t, c)
 }
 
 // Whether a cursor is on the first pair of its tree.
@@ -97,13 +110,19 @@ impl<'a> MapCursor<'a> {
         path::down(self.words, self.trees, way, above, child, 15 - l)
     }
 
-    // The first pair of the next leaf, or off the end if there is none.
+    // The first pair of the next leaf, or off the end if there is none. It shares `branch_off` with `prev_leaf`, and no more: the level,
+    // the place and the end without a level are each its own.
     fn next_node(self) -> Cursor
         requires { 1 ≤ self.cursor.size }
         ensures { Steps next_leaf self.entry.words.now self.entry.cursor result }
     {
         let size = self.cursor.size as usize;
-        let Some(l) = path::right_sibling_branch_level(self.words, self.trees, self.cursor, size - 1) else {
+        let Some(l) = path::right_sibling_branch_level(
+            self.words,
+            self.trees,
+            self.cursor,
+            size - 1,
+        ) else {
             return path::off_end(self.cursor.tree);
         };
         let place = self.cursor.places[l] as usize + 1;
@@ -134,6 +153,17 @@ impl<'a> MapCursor<'a> {
         self.words[b] - 32
     }
 
+    // A place of the leaf; where the leaf has no such place, the first pair of the next leaf.
+    fn goto_entry(self, entry: u32) -> Cursor
+        requires { 1 ≤ self.cursor.size }
+        ensures { Steps (at_entry entry) self.entry.words.now self.entry.cursor result }
+    {
+        if entry < self.leaf_entries() {
+            return set_entry(self.cursor, self.cursor.size as usize - 1, entry);
+        }
+        self.next_node()
+    }
+
     // Where the next pair is.
     fn next_place(self) -> Cursor
         ensures { Steps next self.entry.words.now self.entry.cursor result }
@@ -142,12 +172,7 @@ impl<'a> MapCursor<'a> {
         if size == 0 {
             return self.cursor;
         }
-        let entry = self.cursor.places[size - 1];
-        let n = self.leaf_entries();
-        if entry + 1 < n {
-            return set_entry(self.cursor, size - 1, entry + 1);
-        }
-        self.next_node()
+        self.goto_entry(self.cursor.places[size - 1] + 1)
     }
 
     // Go to the next pair.
@@ -166,12 +191,7 @@ impl<'a> MapCursor<'a> {
         if size == 0 {
             return self.cursor;
         }
-        let entry = self.cursor.places[size - 1];
-        let n = self.leaf_entries();
-        if entry < n {
-            return self.cursor;
-        }
-        self.next_node()
+        self.goto_entry(self.cursor.places[size - 1])
     }
 
     // From one past a leaf's last entry go to the first pair of the next leaf.

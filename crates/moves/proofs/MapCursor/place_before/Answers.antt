@@ -1,13 +1,13 @@
 use mathlib.Core.Path.{refl, sym, ◌∙◌}
 use native.Mathlib.Omega.{arith}
 use Rattle.forest.specs.Cursors.{off, prev}
+use Rattle.path.specs.declared.Way.TheVariants.{Last}
 use Rattle.moves.specs.Moves.{prev_leaf}
 use Rattle.path.proofs.Seats.{leafy}
 use Rattle.path.proofs.Roots.{trees_few, root-place, root_below, goes_empty, goes_way}
 use Rattle.moves.proofs.Moving.{off_cursor, back_last, step_as, step_entry, prev_within, prev_beyond}
 use borrow.Author.Rules.{rules}
 use Rattle.moves.proofs.Held.{cursor_ready, cursor_stands, steps_tree}
-use Rattle.path.specs.declared.Way.TheVariants.{Last}
 use Rattle.moves.proofs.MapCursor.place_before.Goals as goal
 
 pub bounds-self-self : goal.bounds-self-self
