@@ -35,19 +35,6 @@ fn set_entry(mut c: Cursor, l: usize, entry: u32) -> Cursor
     c
 }
 
-// Go to a place of the leaf; where the leaf has no such place, to the first pair of the next leaf.
-fn goto_entry(ws: &[u32], t: usize, c: Cursor, entry: u32) -> Cursor
-    requires ready { Ready ws.now t c.tree }
-    requires standing { Standing ws.now c }
-    requires le_size { 1 ≤ c.size }
-    ensures { Steps (at_entry entry) ws.now c result }
-{
-    if entry < leaf_entries(ws, t, c) {
-        return set_entry(c, c.size as usize - 1, entry);
-    }
-    next_node(ws, t, c)
-}
-
 // Whether a cursor is on the first pair of its tree.
 #[tactic(auto, unfolding(crate::specs::Moves::at_first))]
 fn at_first_entry(c: Cursor) -> bool
