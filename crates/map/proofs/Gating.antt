@@ -21,7 +21,6 @@ use Rattle.forest.proofs.CursorCalls.{move-refused, move-done}
 use Rattle.path.specs.Cores.{Ready, Of, Look}
 use Rattle.path.specs.declared.Tree.{Tree}
 use Rattle.path.proofs.Trees.{tree_ready}
-use Rattle.moves.specs.declared.MapCursor.{MapCursor}
 use Rattle.stand.specs.Runs.{Tells}
 use Rattle.map.specs.Gates.{Gates, Admits, Allows, Stood, Told, held_at}
 use Rattle.map.proofs.Promising.{of, trees_of, refused_moves, blocked-place, tree_there, free_reads, stands-standing}
@@ -43,16 +42,15 @@ gate_open ws tree x a b = record {
   shut = λ w q. absurd (let z : ◌≡◌ {A = ℕ} 0 1 = cc in omega arith);
 }
 
--- what is said of that tree is said of the words
-pub of_tree : {ws : List ℕ} {tree : ℕ} {x : Tree} (P : List ℕ → ℕ → Type 0) → (x.words.now ≡ ws) × (x.number ≡ tree) → P x.words.now x.number → P ws tree
-of_tree {ws} {tree} {x} P e q = subst (λ (u : List ℕ). P u tree) e.0 (subst (λ (n : ℕ). P x.words.now n) e.1 q)
+-- what is said of other words, and of a tree or a cursor of theirs, is said of these
+pub of_tree : {ws vs : List ℕ} {tree n : ℕ} (P : List ℕ → ℕ → Type 0) → (vs ≡ ws) × (n ≡ tree) → P vs n → P ws tree
+of_tree {vs = vs} {tree = tree} P e q = subst (λ (u : List ℕ). P u tree) e.0 (subst (λ (n : ℕ). P vs n) e.1 q)
 
-pub gate_ready : {ws : List ℕ} {tree : ℕ} {x : Tree} → (x.words.now ≡ ws) × (x.number ≡ tree) → Ready ws x.trees tree
-gate_ready {x = x} e = of_tree {x = x} (λ u n. Ready u x.trees n) e (tree_ready x)
+pub of_cursor : {ws vs : List ℕ} {at d : Cursor} (P : List ℕ → Cursor → Type 0) → (vs ≡ ws) × (d ≡ at) → P vs d → P ws at
+of_cursor {vs = vs} {at = at} P e q = subst (λ (u : List ℕ). P u at) e.0 (subst (λ (d : Cursor). P vs d) e.1 q)
 
--- and of a cursor
-pub of_cursor : {ws : List ℕ} {at : Cursor} {x : MapCursor} (P : List ℕ → Cursor → Type 0) → (x.words.now ≡ ws) × (x.cursor ≡ at) → P x.words.now x.cursor → P ws at
-of_cursor {ws} {at} {x} P e q = subst (λ (u : List ℕ). P u at) e.0 (subst (λ (d : Cursor). P x.words.now d) e.1 q)
+pub gate_ready : {ws : List ℕ} {tree : ℕ} {r : Result Tree Refusal} → Gates ws tree r → (x : Tree) → r ≡ Ok x → Ready ws x.trees tree
+gate_ready g x e = of_tree (λ u n. Ready u x.trees n) (g.passes x e) (tree_ready x)
 
 shut_admits : (ws : List ℕ) (c : Cursor) (y : Refusal) → ((p : Pool) → Of ws p → (v : Move) → reads v ≡ true → blocked v c p ≡ some y) → Admits ws c (Err y)
 shut_admits ws c y b = record {
@@ -68,14 +66,14 @@ module _ (ws : List ℕ) (c : Cursor) (g : Result Tree Refusal) (x : Gates ws c.
   module _ (t : Tree) (e : g ≡ Ok t) (r : Bool) (z : Tells ws c r) where
     pub admit_open : length c.nodes ≡ 16 → length c.places ≡ 16 → r ≡ true → Admits ws c (Ok tt)
     admit_open ln lp q =
-        let y = gate_ready {x = t} (x.passes t e) in
+        let y = gate_ready x t e in
         record {
           stood = λ k. record { sound = y.sound; there = rw (← y.trees) y.there; standing = stands-standing ws c r ln lp z q };
           shut = λ u k. absurd (let w : ◌≡◌ {A = ℕ} 0 1 = cc in omega arith);
         }
 
     pub admit_place : r ≡ false → Admits ws c (Err NoPlace)
-    admit_place q = shut_admits ws c NoPlace (λ p o v k. blocked-place v c p (tree_there ws t.trees c.tree (gate_ready {x = t} (x.passes t e)) p o) k (sym (z.tells p o) ∙ q))
+    admit_place q = shut_admits ws c NoPlace (λ p o v k. blocked-place v c p (tree_there ws t.trees c.tree (gate_ready x t e) p o) k (sym (z.tells p o) ∙ q))
 
 -- the gate for a cursor, of words that are sound
 pub admitted_allows : (ws : List ℕ) (c : Cursor) (r : Result ⊤ Refusal) → Sound leaf_least ws → Admits ws c r → Allows ws c r

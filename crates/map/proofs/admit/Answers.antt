@@ -11,7 +11,7 @@ returns-in_err-tree c =
     rw (p.1, p.2) (admit_shut c.args.ws.now c.args.at _ c.in_err-tree.ensures _ refl)
 
 pub stands-requires : goal.stands-requires
-stands-requires c = gate_ready (c.in_ok-tree.ensures.passes _ refl)
+stands-requires c = gate_ready c.in_ok-tree.ensures _ refl
 
 pub returns-then-not-stands : goal.returns-then-not-stands
 returns-then-not-stands c =

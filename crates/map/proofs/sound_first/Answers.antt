@@ -14,6 +14,6 @@ pub returns-in-Ok : goal.returns-in-Ok
 returns-in-Ok c =
     let e = c.gate.ensures.passes c.in-Ok.tree c.in-Ok.is in
     let d = c.goto_first.result.cursor in
-    first_moves c.args.ws.now _ c.args.at (gate_ready e) _ _
+    first_moves c.args.ws.now _ c.args.at (gate_ready c.gate.ensures c.in-Ok.tree c.in-Ok.is) _ _
     (of_tree (λ u n. Goes first u n d) e c.goto_first.ensures.place)
     (subst (λ u. Seen u d c.seen.result) (c.goto_first.ensures.words ∙ e.0) c.seen.ensures)

@@ -15,4 +15,4 @@ pub returns : goal.returns
 returns c =
     let e = c.in_ok-here.ensures.passes _ refl in
     let l = of_tree (λ u n. Looks c.args.key u n c.look_for.result) e c.look_for.ensures in
-    get_calls c.args.ws.now _ c.args.tree c.args.key (gate_ready e) _ _ _ l.goes l.sees c.held.ensures
+    get_calls c.args.ws.now _ c.args.tree c.args.key (gate_ready c.in_ok-here.ensures _ refl) _ _ _ l.goes l.sees c.held.ensures

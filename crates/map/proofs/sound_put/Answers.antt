@@ -6,7 +6,7 @@ use Rattle.map.proofs.Promising.{gated_calls}
 use Rattle.map.proofs.sound_put.Goals as goal
 
 pub put-requires : goal.put-requires
-put-requires c = gate_ready (c.in_ok-here.ensures.passes _ refl)
+put-requires c = gate_ready c.in_ok-here.ensures _ refl
 
 pub returns-in_err-here : goal.returns-in_err-here
 returns-in_err-here c =

@@ -13,7 +13,7 @@ pub returns-in-Ok : goal.returns-in-Ok
 returns-in-Ok c =
     let e = c.gate.ensures.passes c.in-Ok.tree c.in-Ok.is in
     let d = c.goto-there.result.cursor in
-    seek_moves c.args.ws.now _ c.args.at (gate_ready e) c.args.key _ _ _
+    seek_moves c.args.ws.now _ c.args.at (gate_ready c.gate.ensures c.in-Ok.tree c.in-Ok.is) c.args.key _ _ _
     (of_tree (λ u n. Goes (seek c.args.key) u n d) e c.goto-there.ensures.place)
     (subst (λ u. Sees u d c.look.result) (c.goto-there.ensures.words ∙ e.0) c.look.ensures)
     c.held.ensures
