@@ -6,7 +6,7 @@
 mod calls;
 mod input;
 
-ghost use Rattle.std.specs.Prelude.{◌≤◌, OnOk, IfOk};
+ghost use Rattle.std.specs.Prelude.{◌≤◌, IfOk};
 
 use calls::{Call, Unknown};
 use forest::{MAX_NODES, MAX_TREES};
@@ -58,8 +58,8 @@ fn record(rt: &(impl Input + Print), ws: &mut [u32], list: u32, call: u32) -> Re
     ensures { IfOk result (λ differ. differ ≤ 1) }
 {
     let r = input::read_words::<37>(rt).ok_or(Stop::EndsEarly)?;
-    let made = Call::try_from(r[0]).map_err(|_: Unknown| Stop::NoCall(list, call))?;
-    let Err(part) = calls::judge(ws, made, &r) else {
+    let which = Call::try_from(r[0]).map_err(|_: Unknown| Stop::NoCall(list, call))?;
+    let Err(part) = calls::judge(ws, which, &r) else {
         return Ok(0);
     };
     let _ = println!(rt; "list {list}: call {call} differs in the {part}");
