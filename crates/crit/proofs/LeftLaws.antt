@@ -1,5 +1,5 @@
 -- PROOFS. The key before a node: read, set, handed to the right neighbour
-use mathlib.Core.Path.{◌≡◌, refl, sym, ◌∙◌, subst}
+use mathlib.Core.Path.{◌≡◌, sym, ◌∙◌, subst}
 use mathlib.Core.List.{List}
 use mathlib.Core.Bool.{true, false}
 use Rattle.std.specs.Prelude.{Option, Some, None}
@@ -32,13 +32,6 @@ module _ {ws : List ℕ} {t : ℕ} {c : Cursor} {level : ℕ} (y : Route ws t c 
         subst (λ (z : ℕ). Some (get_or w p 0) ≡ crit_key m.s.st m.s.ns m.s.ps z) e (simp f (rw (b, a2)));
   }
 
-  pub crit_up : (p : ℕ) (r : Option ℕ) → p ≡ get_or c.places l 0 → p ≡ 0 → Crits ws t c l r → Crits ws t c level r
-  crit_up p r a h g = record {
-    run = λ m sp.
-        let f = first_yes m sp (sym a ∙ h) in
-        subst (λ (z : ℕ). r ≡ crit_key m.s.st m.s.ns m.s.ps z) e (simp f (g.run m sp));
-  }
-
   -- update_crit_key
   pub left_here : (w vs : List ℕ) (p k : ℕ) → w ≡ block ws t (get_or c.nodes l 0) → p ≡ get_or c.places l 0 → (p ≡ 0 → ⊥) → vs ≡ with_block ws t (get_or c.nodes l 0) (set w p k) →
       Leaves (λ s. stored s (left_set s.st s.ns s.ps level k)) ws vs t c c
@@ -54,18 +47,6 @@ module _ {ws : List ℕ} {t : ℕ} {c : Cursor} {level : ℕ} (y : Route ws t c 
         let sp2 = spelt_store sp (m.s.ns l) i.some i.few (set (m.s.st (m.s.ns l)) (m.s.ps l) k) (length-set (m.s.st (m.s.ns l)) (m.s.ps l) k ∙ sp.sixteen (m.s.ns l)) in
         subst (λ (z : ℕ). Spelt vs t c (moved m (stored m.s (left_set m.s.st m.s.ns m.s.ps z k)))) e (rw v2 (simp f sp2));
   }
-
-  pub left_up : (vs : List ℕ) (p k : ℕ) → p ≡ get_or c.places l 0 → p ≡ 0 → Leaves (λ s. stored s (left_set s.st s.ns s.ps l k)) ws vs t c c →
-      Leaves (λ s. stored s (left_set s.st s.ns s.ps level k)) ws vs t c c
-  left_up vs p k a h g = record {
-    run = λ m sp.
-        let f = first_yes m sp (sym a ∙ h) in
-        subst (λ (z : ℕ). Spelt vs t c (moved m (stored m.s (left_set m.s.st m.s.ns m.s.ps z k)))) e (simp f (g.run m sp));
-  }
-
-pub crit_root : {ws : List ℕ} {t : ℕ} {c : Cursor} (level : ℕ) → level ≤ 0 → Crits ws t c level None
-crit_root zero h = record { run = λ m sp. refl }
-crit_root (suc l) h = absurd (omega arith)
 
 pub left_root : {ws : List ℕ} {t : ℕ} {c : Cursor} (k level : ℕ) → level ≤ 0 → Leaves (λ s. stored s (left_set s.st s.ns s.ps level k)) ws ws t c c
 left_root k zero h = record { run = λ m sp. sp }
