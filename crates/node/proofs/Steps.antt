@@ -1,50 +1,22 @@
--- PROOFS. What a node keeps that is cut, how one stands that lost an item, and what two nodes share: over the capacity and the kind
+-- PROOFS. What a node keeps that lost an item, what the halves are of one that is cut, and what two nodes share: over the kind
 use mathlib.Core.Path.{◌≡◌, ap, ◌∙◌}
 use mathlib.Core.Logic.{◌≢◌}
 use mathlib.Core.List.{List, []}
-use Prim.Native.Nat.{ℕ, suc, ◌+◌, ◌-◌, ◌*◌, ◌/◌, ◌≤◌, ◌<◌}
-use native.Mathlib.Numerals.{add-one}
+use Prim.Native.Nat.{ℕ, suc, ◌-◌, ◌/◌, ◌≤◌, ◌<◌}
 use native.Mathlib.Omega.{arith}
 use lib.ListN.{length, take, drop, get_or, length-drop}
 use lib.Seq.{length-take-le}
-use borrow.Author.Tests.{le-leb, lt-leb, lt-ltb, le-ltb, eq-eqb, ne_eqb}
+use borrow.Author.Tests.{le-leb, lt-leb, eq-eqb, ne_eqb}
 use Rattle.forest.specs.Lists.{remove_at, pad}
 use Rattle.forest.specs.Pairs.{Item}
-use Rattle.forest.specs.Rows.{keeps}
-use Rattle.node.specs.Nodes.{cut_of, status_of, split_of, keep, balance_of, items_of, half_items, packed, packed_halves}
+use Rattle.node.specs.Nodes.{cut_of, split_of, keep, balance_of, items_of, half_items, packed, packed_halves}
 use Rattle.node.specs.Kinds.{KindLaws}
 use Rattle.node.specs.declared.items.Items.{Items}
 use Rattle.node.specs.declared.items.Halves.{Halves}
 use Rattle.node.specs.declared.SplitOff.{SplitOff}
 use Rattle.node.specs.declared.Balanced.TheVariants.{Merged, Shared}
-use Rattle.node.specs.declared.Removed.TheVariants.{Healthy, Rightmost, Underflow, Empty}
 use Rattle.node.proofs.ItemLaws.{halves_of, half_items_lem}
 use Rattle.node.proofs.KindLaws.{packs}
-
-pub keeps_left : (c p : ℕ) → p ≤ c / 2 → c / 2 + 1 ≡ keeps c p
-unfolding keeps
-keeps_left c p h = simp (le-leb p (c / 2) h) (add-one (c / 2))
-
-pub keeps_right : (c p : ℕ) → c / 2 < p → (c + 1) / 2 ≡ keeps c p
-unfolding keeps
-keeps_right c p h = simp (lt-leb p (c / 2) h) (ap (λ (n : ℕ). n / 2) (add-one c))
-
-module _ (c place left : ℕ) where
-  pub rightmost : c ≤ 2 * left → place ≡ left → Rightmost ≡ status_of c place left
-  unfolding status_of
-  rightmost h e = simp (le-leb c (2 * left) h, eq-eqb place left e)
-
-  pub healthy : c ≤ 2 * left → place ≢ left → Healthy ≡ status_of c place left
-  unfolding status_of
-  healthy h e = simp (le-leb c (2 * left) h, ne_eqb place left e)
-
-  pub underflow : 2 * left < c → 0 < left → Underflow ≡ status_of c place left
-  unfolding status_of
-  underflow h e = simp (lt-leb c (2 * left) h, lt-ltb 0 left e)
-
-  pub empty : 2 * left < c → left ≤ 0 → Empty ≡ status_of c place left
-  unfolding status_of
-  empty h e = simp (lt-leb c (2 * left) h, le-ltb 0 left e)
 
 -- a node that lost its last item, and one that has others
 module _ (t : ℕ) (words : List Item → List ℕ) (items : List ℕ → List Item) (w : List ℕ) (o : ℕ) where

@@ -1,10 +1,11 @@
 // The items of one node, or of two joined, between their words and their words again: leaves and inner nodes alike.
-ghost use Rattle.std.specs.Prelude.{◌≡◌, ◌+◌, ◌≤◌, ◌<◌, drop, get_or};
+ghost use Rattle.std.specs.Prelude.{◌≡◌, ◌+◌, ◌≤◌, ◌<◌, drop};
 ghost use Rattle.std.proofs.Math.Seq.{paste};
 ghost use Rattle.forest.specs.Lists.{remove_at, pad};
 ghost use Rattle.node.specs.Nodes.{with_item, less_item, both_items, part_items, half_items};
 
 // The items of one node, or of two joined: keys, and values or children. Past the last all is 0.
+// No pairs: keys and links stand apart in the words of a node too, so each goes over in one copy.
 #[derive(Clone, Copy)]
 pub struct Items {
     pub count: usize,
@@ -26,26 +27,8 @@ pub fn copied(a: [u32; 16], to: usize, b: [u32; 16], from: usize, n: usize) -> [
     ensures { result ≡ paste a to (drop from b) n }
 {
     let mut out = a;
-    for i in 0..n {
-        out[to + i] = b[from + i];
-    }
+    out[to..to + n].copy_from_slice(&b[from..from + n]);
     out
-}
-
-// One item more, at place `at`.
-pub fn insert(items: Items, at: usize, key: u32, link: u32) -> Items
-    requires { (at < 16) × (items.count < 16) }
-    ensures { result ≡ with_item items at key link }
-{
-    let mut keys = items.keys;
-    let mut links = items.links;
-    forest::slice_insert(&mut keys, at, key);
-    forest::slice_insert(&mut links, at, link);
-    Items {
-        count: items.count + 1,
-        keys,
-        links,
-    }
 }
 
 // `a` without its word at `at`, and a 0 at the end.
@@ -59,76 +42,63 @@ fn without(a: [u32; 16], at: usize) -> [u32; 16]
     out
 }
 
-// Without the item at place `at`.
-pub fn remove(items: Items, at: usize) -> Items
-    requires { (at < 16) × (1 ≤ items.count) }
-    ensures { result ≡ less_item items at }
-{
-    let all_keys = items.keys;
-    let all_links = items.links;
-    let keys = without(all_keys, at);
-    let links = without(all_links, at);
-    Items {
-        count: items.count - 1,
-        keys,
-        links,
+impl Items {
+    // One item more, at place `at`.
+    pub fn insert(mut self, at: usize, key: u32, link: u32) -> Items
+        requires { (at < 16) × (self.count < 16) }
+        ensures { result ≡ with_item self at key link }
+    {
+        forest::slice_insert(&mut self.keys, at, key);
+        forest::slice_insert(&mut self.links, at, link);
+        self.count += 1;
+        self
     }
-}
 
-// The items of `a` and then those of `b`.
-pub fn append(a: Items, b: Items) -> Items
-    requires { a.count + b.count ≤ 16 }
-    ensures { result ≡ both_items a b }
-{
-    let m = a.count;
-    let n = b.count;
-    let a_keys = a.keys;
-    let a_links = a.links;
-    let b_keys = b.keys;
-    let b_links = b.links;
-    let keys = copied(a_keys, m, b_keys, 0, n);
-    let links = copied(a_links, m, b_links, 0, n);
-    Items {
-        count: m + n,
-        keys,
-        links,
+    // Without the item at place `at`.
+    pub fn remove(self, at: usize) -> Items
+        requires { (at < 16) × (1 ≤ self.count) }
+        ensures { result ≡ less_item self at }
+    {
+        Items {
+            count: self.count - 1,
+            keys: without(self.keys, at),
+            links: without(self.links, at),
+        }
     }
-}
 
-// The `n` items from place `from` on.
-fn part(items: Items, from: usize, n: usize) -> Items
-    requires { from + n ≤ 16 }
-    ensures { result ≡ part_items items from n }
-{
-    let all_keys = items.keys;
-    let all_links = items.links;
-    let keys = copied([0u32; 16], 0, all_keys, from, n);
-    let links = copied([0u32; 16], 0, all_links, from, n);
-    Items {
-        count: n,
-        keys,
-        links,
+    // These items and then those of `other`.
+    pub fn append(self, other: Items) -> Items
+        requires { self.count + other.count ≤ 16 }
+        ensures { result ≡ both_items self other }
+    {
+        Items {
+            count: self.count + other.count,
+            keys: copied(self.keys, self.count, other.keys, 0, other.count),
+            links: copied(self.links, self.count, other.links, 0, other.count),
+        }
     }
-}
 
-// The key of the item at place `at`.
-fn key_at(items: Items, at: usize) -> u32
-    requires { at < 16 }
-    ensures { result ≡ get_or items.keys at 0 }
-{
-    let keys = items.keys;
-    keys[at]
-}
+    // The `n` items from place `from` on.
+    fn part(self, from: usize, n: usize) -> Items
+        requires { from + n ≤ 16 }
+        ensures { result ≡ part_items self from n }
+    {
+        Items {
+            count: n,
+            keys: copied([0; 16], 0, self.keys, from, n),
+            links: copied([0; 16], 0, self.links, from, n),
+        }
+    }
 
-// Items cut in two after the first `l`.
-pub fn cut_at(items: Items, l: usize) -> Halves
-    requires { (l ≤ items.count) × (l < 16) × (items.count ≤ 16) }
-    ensures { result ≡ half_items items l }
-{
-    let n = items.count;
-    Halves {
-        left: part(items, 0, l),
-        right: part(items, l, n - l),
-        key: key_at(items, l),
+    // The items cut in two after the first `l`.
+    pub fn cut_at(self, l: usize) -> Halves
+        requires { (l ≤ self.count) × (l < 16) × (self.count ≤ 16) }
+        ensures { result ≡ half_items self l }
+    {
+        Halves {
+            left: self.part(0, l),
+            right: self.part(l, self.count - l),
+            key: self.keys[l],
+        }
     }
 }

@@ -11,7 +11,7 @@ ghost use Rattle.node.specs.Kinds.{KindLaws, leaf_laws, inner_laws};
 
 pub mod items;
 
-use items::{Items, append, copied, cut_at, insert};
+use items::{Items, copied};
 
 // How a node stands that lost an entry.
 #[derive(Clone, Copy)]
@@ -24,6 +24,27 @@ pub enum Removed {
     Underflow,
     // The last entry went.
     Empty,
+}
+
+impl Removed {
+    // How a node of `capacity` stands that lost its item at `removed` and has `left` left.
+    #[tactic(auto, unfolding(crate::specs::Nodes::status_of))]
+    fn new(removed: usize, left: usize, capacity: usize) -> Removed
+        requires { left < 16 }
+        ensures { result ≡ status_of capacity removed left }
+    {
+        if capacity <= 2 * left {
+            if removed == left {
+                Removed::Rightmost
+            } else {
+                Removed::Healthy
+            }
+        } else if 0 < left {
+            Removed::Underflow
+        } else {
+            Removed::Empty
+        }
+    }
 }
 
 // A full node with one entry more, in two, and the right half's first key.
@@ -128,18 +149,11 @@ impl Kind for InnerNode {
     ghost laws = { inner_laws };
 }
 
-// A word as a place or a count.
-fn wide(x: u32) -> usize
-    ensures { result ≡ x }
-{
-    x as usize
-}
-
 // An inner node with a single key and two children.
 pub fn inner(left: u32, key: u32, right: u32) -> [u32; 16]
     ensures { result ≡ inner_words ((0, left) ∷ (key, right) ∷ []) }
 {
-    let mut w = [0u32; 16];
+    let mut w = [0; 16];
     w[0] = 17;
     w[1] = key;
     w[8] = left;
@@ -151,7 +165,7 @@ pub fn inner(left: u32, key: u32, right: u32) -> [u32; 16]
 pub fn leaf(key: u32, value: u32) -> [u32; 16]
     ensures { result ≡ leaf_words ((key, value) ∷ []) }
 {
-    let mut w = [0u32; 16];
+    let mut w = [0; 16];
     w[0] = 33;
     w[1] = key;
     w[8] = value;
@@ -163,12 +177,13 @@ fn unpack<K: Kind>(w: [u32; 16], first: u32) -> Items
     requires { K.Is w }
     ensures { (result.count ≡ get_or w 0 0 - K.TAG) × (result ≡ items_of (keyed K.HIDDEN first (K.items w))) }
 {
-    let count = wide(w[0] - K::TAG);
-    let mut zeros = [0u32; 16];
-    zeros[0] = first;
-    let keys = copied(zeros, K::HIDDEN, w, 1, 7);
-    let links = copied([0u32; 16], 0, w, 8, 8);
-    Items { count, keys, links }
+    let mut keys = [0; 16];
+    keys[0] = first;
+    Items {
+        count: (w[0] - K::TAG) as usize,
+        keys: copied(keys, K::HIDDEN, w, 1, 7),
+        links: copied([0; 16], 0, w, 8, 8),
+    }
 }
 
 // The words of a node.
@@ -176,13 +191,9 @@ fn pack<K: Kind>(items: Items) -> [u32; 16]
     requires { (1 ≤ items.count) × (items.count ≤ K.CAPACITY) }
     ensures { result ≡ packed K.TAG K.HIDDEN items }
 {
-    let count = items.count;
-    let mut w = [0u32; 16];
-    w[0] = K::TAG + (count as u32);
-    let keys = items.keys;
-    let links = items.links;
-    let k = copied(w, 1, keys, K::HIDDEN, 7);
-    copied(k, 8, links, 0, 8)
+    let mut w = [0; 16];
+    w[0] = K::TAG + items.count as u32;
+    copied(copied(w, 1, items.keys, K::HIDDEN, 7), 8, items.links, 0, 8)
 }
 
 // `key` at place `index` of an inner node with room, and `node` right of it.
@@ -190,18 +201,20 @@ pub fn inner_insert(w: [u32; 16], index: usize, key: u32, node: u32) -> [u32; 16
     requires { Inner w × (get_or w 0 0 < 23) × (index < get_or w 0 0 - 15) }
     ensures { result ≡ inner_words (insert_at (suc index) (key, node) (inner_items w)) }
 {
-    pack::<InnerNode>(insert(unpack::<InnerNode>(w, 0), index + 1, key, node))
+    pack::<InnerNode>(unpack::<InnerNode>(w, 0).insert(index + 1, key, node))
 }
 
 // The entries that the left half of a full node of `len` keeps, the one at place `ins` in.
+#[tactic(auto, unfolding(forest::specs::Rows::keeps))]
 fn split_pos(len: usize, ins: usize) -> usize
     requires { (2 ≤ len) × (len < 16) }
     ensures { (1 ≤ result) × (result ≤ len) × (result ≡ keeps len ins) }
 {
     if ins <= len / 2 {
-        return len / 2 + 1;
+        len / 2 + 1
+    } else {
+        (len + 1) / 2
     }
-    (len + 1) / 2
 }
 
 // Items cut in two after the first `l`, each half in a node.
@@ -209,7 +222,7 @@ fn halves<K: Kind>(all: Items, l: usize) -> SplitOff
     requires { (1 ≤ l) × (l ≤ K.CAPACITY) × (l < all.count) × (all.count ≤ l + K.CAPACITY) }
     ensures { result ≡ packed_halves K.TAG K.HIDDEN all l }
 {
-    let parts = cut_at(all, l);
+    let parts = all.cut_at(l);
     SplitOff {
         left: pack::<K>(parts.left),
         right: pack::<K>(parts.right),
@@ -222,25 +235,8 @@ pub fn split<K: Kind>(w: [u32; 16], at: usize, key: u32, link: u32) -> SplitOff
     requires { K.Is w × (get_or w 0 0 ≡ K.TAG + K.CAPACITY) × (at ≤ K.CAPACITY) }
     ensures { result ≡ split_of K.words (keeps K.CAPACITY at) (insert_at at (key, link) (K.items w)) }
 {
-    let all = insert(unpack::<K>(w, 0), at, key, link);
+    let all = unpack::<K>(w, 0).insert(at, key, link);
     halves::<K>(all, split_pos(K::CAPACITY, at))
-}
-
-// The status of a node of `capacity` that lost the entry at `removed` and has `left` left.
-fn status(removed: usize, left: usize, capacity: usize) -> Removed
-    requires { left < 16 }
-    ensures { result ≡ status_of capacity removed left }
-{
-    if capacity <= 2 * left {
-        if removed == left {
-            return Removed::Rightmost;
-        }
-        return Removed::Healthy;
-    }
-    if 0 < left {
-        return Removed::Underflow;
-    }
-    Removed::Empty
 }
 
 // A node without its item at place `at`.
@@ -248,18 +244,17 @@ pub fn remove<K: Kind>(w: [u32; 16], at: usize) -> Cut
     requires { K.Is w × (at < get_or w 0 0 - K.TAG) }
     ensures { (result.words ≡ cut_of K.TAG K.words K.items w at) × (result.status ≡ status_of K.CAPACITY at (get_or w 0 0 - suc K.TAG)) }
 {
-    let others = items::remove(unpack::<K>(w, 0), at);
-    let left = others.count;
-    let how = status(at, left, K::CAPACITY);
-    if left == 0 {
+    let others = unpack::<K>(w, 0).remove(at);
+    let status = Removed::new(at, others.count, K::CAPACITY);
+    if others.count == 0 {
         return Cut {
-            words: [0u32; 16],
-            status: how,
+            words: [0; 16],
+            status,
         };
     }
     Cut {
         words: pack::<K>(others),
-        status: how,
+        status,
     }
 }
 
@@ -268,7 +263,7 @@ pub fn balance<K: Kind>(w: [u32; 16], v: [u32; 16], key: u32) -> Balanced
     requires { K.Is w × K.Is v }
     ensures { result ≡ balance_of K.words K.CAPACITY (K.items w ++ keyed K.HIDDEN key (K.items v)) }
 {
-    let all = append(unpack::<K>(w, 0), unpack::<K>(v, key));
+    let all = unpack::<K>(w, 0).append(unpack::<K>(v, key));
     let n = all.count;
     if n <= K::CAPACITY {
         return Balanced::Merged(pack::<K>(all));

@@ -4,76 +4,75 @@
 ghost use Rattle.std.specs.Prelude.{◌≡◌, ◌+◌, ◌≤◌, ◌<◌, get_or};
 ghost use Rattle.node.specs.Nodes.{Leaf, Inner};
 
-use node::Removed;
+use node::{Balanced, Cut, InnerNode, Kind, LeafNode, SplitOff};
 use std::io;
 
-// The keys of the nodes, those that come between them, and the values or children.
-const KEYS: [u32; 9] = [10, 20, 30, 40, 50, 60, 70, 80, 90];
+// The keys of the nodes with their values or children, and the keys that come between.
+const ITEMS: [(u32, u32); 9] = [
+    (10, 1),
+    (20, 2),
+    (30, 3),
+    (40, 4),
+    (50, 5),
+    (60, 6),
+    (70, 7),
+    (80, 8),
+    (90, 9),
+];
 
 const BETWEEN: [u32; 9] = [5, 15, 25, 35, 45, 55, 65, 75, 85];
 
-const LINKS: [u32; 9] = [1, 2, 3, 4, 5, 6, 7, 8, 9];
+// A kind of node of which a node of each size can be made.
+trait Sample: Kind {
+    // What stands before the operation in a line.
+    const NAME: &'static str;
 
-fn wide(x: u32) -> u64 {
-    x as u64
+    // A node of n items.
+    fn of(n: usize) -> [u32; 16]
+        requires { (1 ≤ n) × (n ≤ Self.CAPACITY) }
+        ensures { Self.Is result × (get_or result 0 0 ≡ Self.TAG + n) };
 }
 
-fn size(x: usize) -> u64 {
-    x as u64
-}
+impl Sample for LeafNode {
+    const NAME: &'static str = "leaf";
 
-fn number(rt: &impl Print, x: u64) -> io::Result<()> {
-    print!(rt; " {x}")
-}
-
-fn flag(rt: &impl Print, b: bool) -> io::Result<()> {
-    if b {
-        return number(rt, 1);
+    fn of(n: usize) -> [u32; 16] {
+        let mut w = node::leaf(10, 1);
+        for i in 1..n {
+            // Tried: `w = next_pair(w, i)`; a call's result laid in a local that holds an array is a form that the prover does not cover.
+            let more = next_pair(w, i);
+            w = more;
+        }
+        w
     }
-    number(rt, 0)
 }
 
-fn end(rt: &impl Print) -> io::Result<()> {
-    println!(rt)
-}
+impl Sample for InnerNode {
+    const NAME: &'static str = "inner";
 
-fn words(rt: &impl Print, w: [u32; 16]) -> io::Result<()> {
-    print!(rt; " :")?;
-    for i in 0..16 {
-        number(rt, wide(w[i]))?;
+    fn of(n: usize) -> [u32; 16] {
+        if n == 1 {
+            return node::remove::<InnerNode>(two_children(), 1).words;
+        }
+        let mut w = two_children();
+        for i in 2..n {
+            let more = next_child(w, i);
+            w = more;
+        }
+        w
     }
-    Ok(())
-}
-
-// A leaf of one pair.
-fn one_pair(key: u32, value: u32) -> [u32; 16]
-    ensures { Leaf result × (get_or result 0 0 ≡ 33) }
-{
-    node::leaf(key, value)
 }
 
 // A leaf of n pairs with one more behind them.
 fn next_pair(w: [u32; 16], n: usize) -> [u32; 16]
-    requires { Leaf w × (get_or w 0 0 ≡ 32 + n) × (n < 7) }
+    requires { Leaf w × (get_or w 0 0 ≡ 32 + n) × (1 ≤ n) × (n < 7) }
     ensures { Leaf result × (get_or result 0 0 ≡ 33 + n) }
 {
-    let both = node::leaf_balance(w, one_pair(KEYS[n], LINKS[n]));
-    both.right
-}
-
-// A leaf of n pairs.
-fn leaf_of(n: usize) -> [u32; 16]
-    requires { (1 ≤ n) × (n ≤ 7) }
-    ensures { Leaf result × (get_or result 0 0 ≡ 32 + n) }
-{
-    let mut w = one_pair(10, 1);
-    let mut i = 1;
-    while i < n {
-        let more = next_pair(w, i);
-        w = more;
-        i += 1;
+    let (key, value) = ITEMS[n];
+    match node::balance::<LeafNode>(w, node::leaf(key, value), 0) {
+        Balanced::Merged(both) => both,
+        Balanced::Shared(_) => unreachable!(),
     }
-    w
 }
 
 // An inner node of two children.
@@ -83,218 +82,124 @@ fn two_children() -> [u32; 16]
     node::inner(1, 20, 2)
 }
 
-// An inner node of one child.
-fn one_child() -> [u32; 16]
-    ensures { Inner result × (get_or result 0 0 ≡ 16) }
-{
-    let cut = node::inner_remove(two_children(), 1);
-    cut.words
-}
-
 // An inner node of n children with one more.
 fn next_child(w: [u32; 16], n: usize) -> [u32; 16]
     requires { Inner w × (get_or w 0 0 ≡ 15 + n) × (2 ≤ n) × (n < 8) }
     ensures { Inner result × (get_or result 0 0 ≡ 16 + n) }
 {
-    node::inner_insert(w, n - 1, KEYS[n], LINKS[n])
-}
-
-// An inner node of n children.
-fn inner_of(n: usize) -> [u32; 16]
-    requires { (1 ≤ n) × (n ≤ 8) }
-    ensures { Inner result × (get_or result 0 0 ≡ 15 + n) }
-{
-    if n == 1 {
-        return one_child();
-    }
-    let mut w = two_children();
-    let mut i = 2;
-    while i < n {
-        let more = next_child(w, i);
-        w = more;
-        i += 1;
-    }
-    w
+    let (key, child) = ITEMS[n];
+    node::inner_insert(w, n - 1, key, child)
 }
 
 // The start of a line: the operation, the size of the node, and the place or the size of the other node.
-fn title(rt: &impl Print, name: &[u8], n: usize, at: usize) -> io::Result<()> {
-    rt.write_all(name)?;
-    number(rt, size(n))?;
-    number(rt, size(at))
+fn title(rt: &impl Print, kind: &str, name: &str, n: usize, at: usize) -> io::Result<()> {
+    print!(rt; "{kind}_{name} {n} {at}")
 }
 
-fn split(rt: &impl Print, s: node::SplitOff) -> io::Result<()> {
-    let left = s.left;
-    let right = s.right;
-    words(rt, left)?;
-    words(rt, right)?;
-    number(rt, wide(s.key))?;
-    end(rt)
+fn words(rt: &impl Print, w: [u32; 16]) -> io::Result<()> {
+    print!(rt; " :")?;
+    for x in w {
+        print!(rt; " {x}")?;
+    }
+    Ok(())
 }
 
-fn status(r: Removed) -> u64 {
-    match r {
-        Removed::Healthy => 0,
-        Removed::Rightmost => 1,
-        Removed::Underflow => 2,
-        Removed::Empty => 3,
+fn halves(rt: &impl Print, s: SplitOff) -> io::Result<()> {
+    words(rt, s.left)?;
+    words(rt, s.right)?;
+    let key = s.key;
+    print!(rt; " {key}")
+}
+
+fn cut(rt: &impl Print, c: Cut) -> io::Result<()> {
+    words(rt, c.words)?;
+    let status = c.status as u8;
+    println!(rt; " {status}")
+}
+
+// The nodes, the key between them and whether all went to the right: then the left one and the key read 0.
+fn balanced(rt: &impl Print, b: Balanced) -> io::Result<()> {
+    match b {
+        Balanced::Merged(right) => {
+            words(rt, [0; 16])?;
+            words(rt, right)?;
+            println!(rt; " 0 1")
+        }
+        Balanced::Shared(s) => {
+            halves(rt, s)?;
+            println!(rt; " 0")
+        }
     }
 }
 
-fn cut(rt: &impl Print, c: node::Cut) -> io::Result<()> {
-    let left = c.words;
-    let how = c.status;
-    words(rt, left)?;
-    number(rt, status(how))?;
-    end(rt)
-}
-
-fn balanced(rt: &impl Print, b: node::Balanced) -> io::Result<()> {
-    let left = b.left;
-    let right = b.right;
-    words(rt, left)?;
-    words(rt, right)?;
-    number(rt, wide(b.key))?;
-    flag(rt, b.all)?;
-    end(rt)
-}
-
-fn inner_insert(rt: &impl Print, n: usize, index: usize) -> io::Result<()>
+fn insert(rt: &impl Print, n: usize, index: usize) -> io::Result<()>
     requires { 1 ≤ n }
 {
-    if 8 <= n {
-        return Ok(());
+    if n < InnerNode::CAPACITY && index < n {
+        title(rt, InnerNode::NAME, "insert", n, index)?;
+        words(
+            rt,
+            node::inner_insert(InnerNode::of(n), index, BETWEEN[index + 1], 99),
+        )?;
+        println!(rt)?;
     }
-    if n <= index {
-        return Ok(());
-    }
-    title(rt, b"inner_insert", n, index)?;
-    words(
-        rt,
-        node::inner_insert(inner_of(n), index, BETWEEN[index + 1], 99),
-    )?;
-    end(rt)
+    Ok(())
 }
 
-fn leaf_split(rt: &impl Print, n: usize, at: usize) -> io::Result<()> {
-    if n != 7 {
-        return Ok(());
+fn split<K: Sample>(rt: &impl Print, n: usize, at: usize) -> io::Result<()> {
+    if n == K::CAPACITY && at <= K::CAPACITY - K::HIDDEN {
+        let place = at + K::HIDDEN;
+        title(rt, K::NAME, "split", n, at)?;
+        halves(rt, node::split::<K>(K::of(n), place, BETWEEN[place], 99))?;
+        println!(rt)?;
     }
-    if 7 < at {
-        return Ok(());
-    }
-    title(rt, b"leaf_split", n, at)?;
-    split(rt, node::leaf_split(leaf_of(n), at, BETWEEN[at], 99))
+    Ok(())
 }
 
-fn inner_split(rt: &impl Print, n: usize, index: usize) -> io::Result<()> {
-    if n != 8 {
-        return Ok(());
-    }
-    if 8 <= index {
-        return Ok(());
-    }
-    title(rt, b"inner_split", n, index)?;
-    split(
-        rt,
-        node::inner_split(inner_of(n), index, BETWEEN[index + 1], 99),
-    )
-}
-
-fn leaf_remove(rt: &impl Print, n: usize, at: usize) -> io::Result<()>
+fn remove<K: Sample>(rt: &impl Print, n: usize, at: usize) -> io::Result<()>
     requires { 1 ≤ n }
 {
-    if 7 < n {
-        return Ok(());
+    if n <= K::CAPACITY && at < n {
+        title(rt, K::NAME, "remove", n, at)?;
+        cut(rt, node::remove::<K>(K::of(n), at))?;
     }
-    if n <= at {
-        return Ok(());
-    }
-    title(rt, b"leaf_remove", n, at)?;
-    cut(rt, node::leaf_remove(leaf_of(n), at))
+    Ok(())
 }
 
-fn inner_remove(rt: &impl Print, n: usize, at: usize) -> io::Result<()>
+fn balance<K: Sample>(rt: &impl Print, n: usize, m: usize) -> io::Result<()>
     requires { 1 ≤ n }
 {
-    if 8 < n {
-        return Ok(());
+    if n <= K::CAPACITY && 1 <= m && m <= K::CAPACITY {
+        title(rt, K::NAME, "balance", n, m)?;
+        balanced(rt, node::balance::<K>(K::of(n), K::of(m), 99))?;
     }
-    if n <= at {
-        return Ok(());
-    }
-    title(rt, b"inner_remove", n, at)?;
-    cut(rt, node::inner_remove(inner_of(n), at))
-}
-
-fn leaf_balance(rt: &impl Print, n: usize, m: usize) -> io::Result<()>
-    requires { 1 ≤ n }
-{
-    if 7 < n {
-        return Ok(());
-    }
-    if m < 1 {
-        return Ok(());
-    }
-    if 7 < m {
-        return Ok(());
-    }
-    title(rt, b"leaf_balance", n, m)?;
-    balanced(rt, node::leaf_balance(leaf_of(n), leaf_of(m)))
-}
-
-fn inner_balance(rt: &impl Print, n: usize, m: usize) -> io::Result<()>
-    requires { 1 ≤ n }
-{
-    if 8 < n {
-        return Ok(());
-    }
-    if m < 1 {
-        return Ok(());
-    }
-    if 8 < m {
-        return Ok(());
-    }
-    title(rt, b"inner_balance", n, m)?;
-    balanced(rt, node::inner_balance(inner_of(n), inner_of(m), 99))
+    Ok(())
 }
 
 // All operations on a node of size n at place `at`.
 fn lines(rt: &impl Print, n: usize, at: usize) -> io::Result<()>
     requires { 1 ≤ n }
 {
-    leaf_split(rt, n, at)?;
-    leaf_remove(rt, n, at)?;
-    leaf_balance(rt, n, at)?;
-    inner_insert(rt, n, at)?;
-    inner_split(rt, n, at)?;
-    inner_remove(rt, n, at)?;
-    inner_balance(rt, n, at)
-}
-
-fn places(rt: &impl Print, n: usize) -> io::Result<()>
-    requires { 1 ≤ n }
-{
-    for at in 0..9 {
-        lines(rt, n, at)?;
-    }
-    Ok(())
-}
-
-fn sizes(rt: &impl Print) -> io::Result<()> {
-    for n in 1..9 {
-        places(rt, n)?;
-    }
-    Ok(())
+    split::<LeafNode>(rt, n, at)?;
+    remove::<LeafNode>(rt, n, at)?;
+    balance::<LeafNode>(rt, n, at)?;
+    insert(rt, n, at)?;
+    split::<InnerNode>(rt, n, at)?;
+    remove::<InnerNode>(rt, n, at)?;
+    balance::<InnerNode>(rt, n, at)
 }
 
 fn main(rt: HostRuntime) -> io::Result<()> {
     print!(rt; "leaf")?;
     words(&rt, node::leaf(9, 100))?;
-    end(&rt)?;
+    println!(rt)?;
     print!(rt; "inner")?;
-    words(&rt, node::inner(1, 20, 2))?;
-    end(&rt)?;
-    sizes(&rt)
+    words(&rt, two_children())?;
+    println!(rt)?;
+    for n in 1..9 {
+        for at in 0..9 {
+            lines(&rt, n, at)?;
+        }
+    }
+    Ok(())
 }
