@@ -1,13 +1,13 @@
 -- PROOFS. The key before a node: read, set, handed to the right neighbour
 use mathlib.Core.Path.{◌≡◌, sym, ◌∙◌, subst}
 use mathlib.Core.List.{List}
-use mathlib.Core.Bool.{true, false}
+use mathlib.Core.Bool.{false}
 use Rattle.std.specs.Prelude.{Option, Some, None}
 use Prim.Native.Nat.{ℕ, zero, suc, ◌≤◌, ◌<◌}
 use native.Mathlib.Omega.{arith}
 use lib.ListN.{get_or, set, length-set}
 use lib.Dec.{eqb}
-use borrow.Author.Tests.{eq-eqb, ne_eqb}
+use borrow.Author.Tests.{ne_eqb}
 use Rattle.forest.specs.declared.Cursor.{Cursor}
 use Rattle.pool.specs.Stores.{block, with_block}
 use Rattle.crit.specs.States.{stored, right_set, left_set, crit_key, hand_key}
@@ -16,9 +16,6 @@ use Rattle.crit.proofs.SpeltLaws.{spelt_store}
 use Rattle.crit.proofs.WayLaws.{way_at, way_block}
 
 module _ {ws : List ℕ} {t : ℕ} {c : Cursor} {level : ℕ} (y : Route ws t c level) (l : ℕ) (e : suc l ≡ level) where
-  first_yes : (m : Mem) → Spelt ws t c m → get_or c.places l 0 ≡ 0 → eqb (m.s.ps l) 0 ≡ true
-  first_yes m sp h = eq-eqb (m.s.ps l) 0 (sym (sp.places l (omega (arith, y.deep))) ∙ h)
-
   first_no : (m : Mem) → Spelt ws t c m → (get_or c.places l 0 ≡ 0 → ⊥) → eqb (m.s.ps l) 0 ≡ false
   first_no m sp h = ne_eqb (m.s.ps l) 0 (λ q. h (sp.places l (omega (arith, y.deep)) ∙ q))
 
