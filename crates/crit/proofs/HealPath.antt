@@ -8,7 +8,7 @@ use native.Mathlib.Omega.{arith}
 use lib.ListN.{length, get_or, set, length-map}
 use lib.Seq.{set-append_left}
 use lib.Dec.{ltb, eqb}
-use borrow.Author.Tests.{lt-ltb, le-ltb, ltb-true, ltb-false, eqb-true, eqb-false, eq-eqb, ne_eqb}
+use borrow.Author.Tests.{lt-ltb, le-ltb, ltb-true, ltb-false, eqb-true, eqb-false, ne_eqb}
 use Rattle.forest.specs.Lists.{sum, count, pad, parent, offset}
 use Rattle.forest.specs.Pairs.{Item}
 use Rattle.forest.specs.Rows.{Row, size, front, nums, sizes, line, items_at, Fill}
@@ -133,7 +133,7 @@ module _ (st : Store) (ns ps : ℕ → ℕ) where
             let n2 : suc (parent (sizes S) j) < length S =
             rw y at (parent_there S (suc j) (omega arith)) in
             let v : right_set st ns ps (length (S ∷ Ss)) k ≡ right_set st ns ps (length Ss) k = simp e refl in
-            subst (λ (x : Store). HoldsUp x (set_key (suc j) k (S ∷ Ss))) (sym v) (simp (y, z, eq-eqb 0 0 refl) (
+            subst (λ (x : Store). HoldsUp x (set_key (suc j) k (S ∷ Ss))) (sym v) (simp (y, z) (
               holds_apart inner_words st (right_set st ns ps (length Ss) k) (numbers Ss) (upd (suc (parent (sizes S) j)) (rekey_at 0 k) S)
                   (right_set-keeps S (parent (sizes S) j) k Ss r.par s.2 hs.1 p.2)
                   (λ q. rw (upd-nums (suc (parent (sizes S) j)) (rekey_at 0 k) S) (omega (arith, a q)))

@@ -43,13 +43,13 @@ next (g ∷ gs) i p h = elim (test (ltb (suc i) g)) [
             let b = ltb-true i g f in
             let z : suc i - g ≡ 0 = omega arith in
             let q = first gs p.1 (omega arith) in
-            across (simp f (omega arith)) (simp (e, f, z) (ap suc q.0)) (simp (e, f, z) q.1)
+            across (simp f (omega arith)) (simp (e, f, z) (ap suc q.0)) (simp (e, z) q.1)
         | isnt f ↦
             let b = ltb-false i g f in
             let z : suc i - g ≡ suc (i - g) = omega arith in
             elim (next gs (i - g) p.1 (omega arith)) [
               | within u v w ↦ within (simp f u) (simp (e, f, z) (ap suc v)) (simp (e, f, z) w)
-              | across u v w ↦ across (simp f u) (simp (e, f, z) (ap suc v)) (simp (e, f, z) w)
+              | across u v w ↦ across (simp f u) (simp (e, f, z) (ap suc v)) (simp (e, z) w)
             ]
       ]
 ]

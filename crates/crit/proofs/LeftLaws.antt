@@ -1,13 +1,13 @@
 -- PROOFS. The key before a node: read, set, handed to the right neighbour
-use mathlib.Core.Path.{◌≡◌, refl, sym, ◌∙◌, subst}
+use mathlib.Core.Path.{◌≡◌, sym, ◌∙◌, subst}
 use mathlib.Core.List.{List}
-use mathlib.Core.Bool.{true, false}
+use mathlib.Core.Bool.{false}
 use Rattle.std.specs.Prelude.{Option, Some, None}
 use Prim.Native.Nat.{ℕ, zero, suc, ◌≤◌, ◌<◌}
 use native.Mathlib.Omega.{arith}
 use lib.ListN.{get_or, set, length-set}
 use lib.Dec.{eqb}
-use borrow.Author.Tests.{eq-eqb, ne_eqb}
+use borrow.Author.Tests.{ne_eqb}
 use Rattle.forest.specs.declared.Cursor.{Cursor}
 use Rattle.pool.specs.Stores.{block, with_block}
 use Rattle.crit.specs.States.{stored, right_set, left_set, crit_key, hand_key}
@@ -16,9 +16,6 @@ use Rattle.crit.proofs.SpeltLaws.{spelt_store}
 use Rattle.crit.proofs.WayLaws.{way_at, way_block}
 
 module _ {ws : List ℕ} {t : ℕ} {c : Cursor} {level : ℕ} (y : Route ws t c level) (l : ℕ) (e : suc l ≡ level) where
-  first_yes : (m : Mem) → Spelt ws t c m → get_or c.places l 0 ≡ 0 → eqb (m.s.ps l) 0 ≡ true
-  first_yes m sp h = eq-eqb (m.s.ps l) 0 (sym (sp.places l (omega (arith, y.deep))) ∙ h)
-
   first_no : (m : Mem) → Spelt ws t c m → (get_or c.places l 0 ≡ 0 → ⊥) → eqb (m.s.ps l) 0 ≡ false
   first_no m sp h = ne_eqb (m.s.ps l) 0 (λ q. h (sp.places l (omega (arith, y.deep)) ∙ q))
 
@@ -30,13 +27,6 @@ module _ {ws : List ℕ} {t : ℕ} {c : Cursor} {level : ℕ} (y : Route ws t c 
         let a2 : p ≡ m.s.ps l = a ∙ sp.places l (omega (arith, y.deep)) in
         let f = first_no m sp (λ z. h (a ∙ z)) in
         subst (λ (z : ℕ). Some (get_or w p 0) ≡ crit_key m.s.st m.s.ns m.s.ps z) e (simp f (rw (b, a2)));
-  }
-
-  pub crit_up : (p : ℕ) (r : Option ℕ) → p ≡ get_or c.places l 0 → p ≡ 0 → Crits ws t c l r → Crits ws t c level r
-  crit_up p r a h g = record {
-    run = λ m sp.
-        let f = first_yes m sp (sym a ∙ h) in
-        subst (λ (z : ℕ). r ≡ crit_key m.s.st m.s.ns m.s.ps z) e (simp f (g.run m sp));
   }
 
   -- update_crit_key
@@ -54,18 +44,6 @@ module _ {ws : List ℕ} {t : ℕ} {c : Cursor} {level : ℕ} (y : Route ws t c 
         let sp2 = spelt_store sp (m.s.ns l) i.some i.few (set (m.s.st (m.s.ns l)) (m.s.ps l) k) (length-set (m.s.st (m.s.ns l)) (m.s.ps l) k ∙ sp.sixteen (m.s.ns l)) in
         subst (λ (z : ℕ). Spelt vs t c (moved m (stored m.s (left_set m.s.st m.s.ns m.s.ps z k)))) e (rw v2 (simp f sp2));
   }
-
-  pub left_up : (vs : List ℕ) (p k : ℕ) → p ≡ get_or c.places l 0 → p ≡ 0 → Leaves (λ s. stored s (left_set s.st s.ns s.ps l k)) ws vs t c c →
-      Leaves (λ s. stored s (left_set s.st s.ns s.ps level k)) ws vs t c c
-  left_up vs p k a h g = record {
-    run = λ m sp.
-        let f = first_yes m sp (sym a ∙ h) in
-        subst (λ (z : ℕ). Spelt vs t c (moved m (stored m.s (left_set m.s.st m.s.ns m.s.ps z k)))) e (simp f (g.run m sp));
-  }
-
-pub crit_root : {ws : List ℕ} {t : ℕ} {c : Cursor} (level : ℕ) → level ≤ 0 → Crits ws t c level None
-crit_root zero h = record { run = λ m sp. refl }
-crit_root (suc l) h = absurd (omega arith)
 
 pub left_root : {ws : List ℕ} {t : ℕ} {c : Cursor} (k level : ℕ) → level ≤ 0 → Leaves (λ s. stored s (left_set s.st s.ns s.ps level k)) ws ws t c c
 left_root k zero h = record { run = λ m sp. sp }

@@ -16,9 +16,9 @@ use Rattle.forest.specs.Pairs.{Item}
 use Rattle.forest.specs.declared.Cursor.{Cursor}
 use Rattle.forest.proofs.ListLaws.{is, isnt, test}
 use Rattle.pool.specs.Stores.{Store, block, Placed}
-use Rattle.crit.specs.States.{State, at, more, first_child, right_sibling, next_at, next_path, next_node, next_with, node_at, lives}
+use Rattle.crit.specs.States.{State, at, more, first_child, right_sibling, next_at, next_path, next_node, next_with, lives}
 use Rattle.crit.specs.Paths.{num_at, Stacked, HoldsUp, Leads}
-use Rattle.crit.specs.Asks.{Mem, moved, Spelt, Route, Leaves, Nexts, Passes, off_end}
+use Rattle.crit.specs.Asks.{Mem, moved, Spelt, Route, Leaves, Nexts, off_end}
 use Rattle.crit.proofs.HealStack
 use Rattle.crit.proofs.HealPath
 use Rattle.crit.proofs.HealNext
@@ -209,25 +209,3 @@ next_some {ws} {t} {c} {d} {s} {level} r b f x ns ps tr sz = record {
       (λ i h. rw ns (q.nodes i h)) (λ i h. rw ps (set_at d.places (next_at m.s.st m.s.ns m.s.ps level).1 level 0 q.wide b q.places i h))
       (ap length ns ∙ q.long) (ap length ps ∙ length-set d.places level 0 ∙ q.wide) tr sz);
 }
-
-none_is : (o : Option Item) → is_some o ≡ false → o ≡ None
-none_is None e = refl
-none_is (Some x) e = absurd (grind (arith, e))
-
-pub next_none : {ws : List ℕ} {t : ℕ} {c s : Cursor} {level : ℕ} (r : Option Cursor) → Nexts ws t c level r → r ≡ None → s ≡ off_end c → Leaves (next_node level) ws ws t c s
-next_none {ws} {t} {c} {s} {level} r f x e = record {
-  run = λ m sp. rw (none_is (right_sibling m.s.st m.s.ns m.s.ps level) (sym (f.found m sp) ∙ ap is_some x)) (spelt_off sp e);
-}
-
--- through_right
-pub passes_some : {c r : Cursor} {level : ℕ} (near : Option Item) (k n : ℕ) → level < 16 → near ≡ Some (k, n) → r.nodes ≡ set c.nodes level n → r.places ≡ c.places → r.tree ≡ c.tree → r.size ≡ c.size → Passes c r level near
-passes_some {c} {r} {level} near k n d e a b tr z = record {
-  run = λ ws t m sp.
-      rw e (
-      spelt_path sp (node_at m.s level n) refl refl refl
-      (λ i h. rw a (set_at c.nodes m.s.ns level n sp.long d sp.nodes i h)) (λ i h. rw b (sp.places i h))
-      (ap length a ∙ length-set c.nodes level n ∙ sp.long) (ap length b ∙ sp.wide) tr z);
-}
-
-pub passes_none : {c r : Cursor} {level : ℕ} (near : Option Item) → near ≡ None → r ≡ off_end c → Passes c r level near
-passes_none {c} {r} {level} near e o = record { run = λ ws t m sp. rw e (spelt_off sp o) }

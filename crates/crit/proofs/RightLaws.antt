@@ -1,5 +1,5 @@
 -- PROOFS. Each return of right_sibling, and of the setting of a key, is one step of its definition
-use mathlib.Core.Path.{◌≡◌, refl, sym, ap, ◌∙◌, subst}
+use mathlib.Core.Path.{◌≡◌, sym, ap, ◌∙◌, subst}
 use mathlib.Core.List.{List}
 use mathlib.Core.Bool.{true, false}
 use Rattle.std.specs.Prelude.{Option, Some, None}
@@ -93,10 +93,6 @@ module _ {ws : List ℕ} {t : ℕ} {c : Cursor} {level : ℕ} (y : Route ws t c 
         let mo = more_no m sp (rw (q, a) at h) in
         subst (λ (z : ℕ). Spelt vs t c (moved m (stored m.s (right_set m.s.st m.s.ns m.s.ps z k)))) e (simp mo (f.run m sp));
   }
-
-pub right_root : {ws : List ℕ} {t : ℕ} {c : Cursor} (level : ℕ) → level ≤ 0 → Finds ws t c level None
-right_root zero h = record { run = λ m sp. refl }
-right_root (suc l) h = absurd (omega arith)
 
 pub key_root : {ws : List ℕ} {t : ℕ} {c : Cursor} (k level : ℕ) → level ≤ 0 → Leaves (λ s. stored s (right_set s.st s.ns s.ps level k)) ws ws t c c
 key_root k zero h = record { run = λ m sp. sp }

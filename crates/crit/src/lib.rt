@@ -1,4 +1,5 @@
 // The keys above a node and its right sibling, as the crate's path.rs has them: what healing reads and changes along the path.
+// Each search recurses over the level, as its definition does: a loop would be no plainer, and would need an invariant for each.
 #![tactic(auto)]
 
 ghost use Rattle.std.specs.Prelude.{◌≡◌, ◌<◌};
@@ -28,6 +29,7 @@ pub fn right_sibling(ws: &[u32], t: usize, c: Cursor, level: usize) -> Option<(u
 }
 
 // The key before the right sibling of the node at a level becomes `key`.
+// No generic form with update_crit_key, its twin on the left: it would take a trait of two sides for these two alone, and the left search reads no words of the nodes that it passes.
 pub fn update_right_crit_key(ws: &mut [u32], t: usize, c: Cursor, level: usize, key: u32)
     requires { Route ws.old t c level }
     ensures { Leaves (λ s. stored s (right_set s.st s.ns s.ps level key)) ws.old ws.new t c c }
@@ -96,6 +98,7 @@ pub fn hand_crit_key(ws: &mut [u32], t: usize, c: Cursor, level: usize)
 }
 
 // The path to the right sibling of the node at a level.
+// The search of right_sibling again, which hands up two words and not a whole path.
 fn next_path(ws: &[u32], t: usize, c: Cursor, level: usize) -> Option<Cursor>
     requires { Route ws.now t c level }
     ensures { Nexts ws.now t c level result }

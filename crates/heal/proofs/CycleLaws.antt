@@ -21,14 +21,13 @@ use Rattle.node.specs.declared.Removed.{Removed}
 use Rattle.node.specs.declared.Removed.TheVariants.{Healthy, Rightmost, Underflow, Empty}
 use Rattle.crit.specs.States.{State, right_sibling, next_node, through_right, stored}
 use Rattle.crit.specs.Paths.{num_at}
-use Rattle.crit.specs.Asks.{Mem, moved, Spelt, Route, Leaves, Finds, Passes, off_end}
+use Rattle.crit.specs.Asks.{Mem, moved, Spelt, Route, Leaves, Finds, Passes}
 use Rattle.heal.specs.Steps.{inner_ops, heal_level, under_with, empty_node, empty_from, parent_cut, free_node}
 use Rattle.heal.specs.Wounds.{Emptied, Wounded, alive, dead, cut_row}
-use Rattle.heal.specs.Cycle.{Kind, inner_kind, emptied, left, standing, fits, gathered, stayed, healed, under, AskEmpty, AskHeal, AskJoin, Joined, Cuts, Mends, Settles}
+use Rattle.heal.specs.Cycle.{Kind, inner_kind, emptied, left, standing, fits, gathered, stayed, healed, under, AskEmpty, AskHeal, Joined, Cuts, Mends, Settles}
 use Rattle.crit.proofs.HealMem
 use Rattle.crit.proofs.HealPath
 use Rattle.crit.proofs.SpeltLaws.{same_count}
-use Rattle.crit.proofs.NextLaws.{spelt_off}
 use Rattle.heal.proofs.HealUp.{Lawful}
 use Rattle.heal.proofs.HealReady.{ready_cut, ready_none, ready_merge, par_in, len-C, path_c, once_row}
 use Rattle.heal.specs.KindLaws.{inner_law}
@@ -150,8 +149,6 @@ module _ (k : Kind) where
     heal_way = heal_way_put a.mem.s.st (λ x h. refl) a.spelt
 
     -- heal_level's calls
-    pub ask_under : status ≡ Underflow → AskHeal k ws t c Underflow level
-    ask_under q = record { deep = a.deep; mem = a.mem; spelt = a.spelt; ready = a.ready; says = sym q ∙ a.says }
 
     pub ask_none : status ≡ Empty → AskEmpty ws t c level
     ask_none q =
@@ -177,9 +174,6 @@ module _ (k : Kind) where
     module _ {key node : ℕ} (e : near ≡ Some (key, node)) where
       right : (m : Mem) → Spelt ws t c m → right_sibling m.s.st m.s.ns m.s.ps level ≡ Some (key, node)
       right m sp = sym (f.run m sp) ∙ e
-
-      pub ask_join : AskHeal k ws t c Underflow level → AskJoin k ws t c level key node
-      ask_join a = record { heal = a; finds = subst (Finds ws t c level) e f }
 
       pub under-share : {vs : List ℕ} {all : Bool} → Joined k ws vs t c level all → all ≡ false → Leaves (under k level) ws vs t c c
       unfolding under
@@ -297,13 +291,3 @@ empties {ws} {vs} {us} {xs} {t} {c} {d} {r} {level} {status} {near} b h f g k e 
         let sp5 : Spelt xs t r (moved m (empty_from inner_ops (empty_node inner_ops l) l (get_or c.nodes (suc l) 0) m.s)) =
         subst (λ (x : Option Item). Spelt xs t r (moved m (through_right x (suc l) (heal_level inner_ops 8 (empty_node inner_ops l) l (parent_cut inner_ops (free_node m.s (get_or c.nodes (suc l) 0)) l))))) nr sp4 in
         subst (λ (x : ℕ). Spelt xs t r (moved m (empty_from inner_ops (empty_node inner_ops l) l x m.s))) (sp.nodes (suc l) b) sp5
-
-pub empties_root : {ws vs : List ℕ} {t : ℕ} {c r : Cursor} {level : ℕ} → level ≤ 0 → Leaves (λ s. free_node s (get_or c.nodes level 0)) ws vs t c c → r ≡ off_end c → Leaves (emptied level) ws vs t c r
-unfolding emptied
-empties_root {ws} {vs} {t} {c} {r} {level} b f o = record { run = at level b f }
-  where
-    at : (level : ℕ) → level ≤ 0 → Leaves (λ s. free_node s (get_or c.nodes level 0)) ws vs t c c → (m : Mem) → Spelt ws t c m → Spelt vs t r (moved m (emptied level m.s))
-    at (suc l) b f m sp = absurd (omega arith)
-    at zero b f m sp =
-        let n : get_or c.nodes 0 0 ≡ m.s.ns 0 = sp.nodes 0 (omega arith) in
-        spelt_off (subst (λ (x : ℕ). Spelt vs t c (moved m (free_node m.s x))) n (f.run m sp)) o

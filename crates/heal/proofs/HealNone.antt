@@ -5,7 +5,7 @@ use mathlib.Core.Bool.{true}
 use Prim.Native.Nat.{ℕ, suc, ◌+◌, ◌*◌, ◌≤◌, ◌<◌}
 use native.Mathlib.Omega.{arith}
 use lib.ListN.{length, length-map}
-use borrow.Author.Tests.{lt-ltb, eq-eqb, lt-leb}
+use borrow.Author.Tests.{lt-ltb, lt-leb}
 use Rattle.forest.specs.Lists.{remove_at, sum, count, pad, parent, offset}
 use Rattle.forest.specs.Pairs.{Item}
 use Rattle.forest.specs.Rows.{Row, size, nums, sizes, items_at, Fill, drop_row}
@@ -60,7 +60,7 @@ module _ {enc : List Item → List ℕ} {cap low : ℕ} {o : Ops} (law : Lawful 
       fewer = lt-ltb (length (remove_at (parent (sizes S) i) S)) (length S) (omega (arith, len-M))
 
       se : heal_level o cap up (length Ss) s ≡ up s
-      se = simp (zeros, law.entries_none, lt-leb cap (2 * 0) (omega (arith, law.least_two, law.least_half)), eq-eqb 0 0 refl)
+      se = simp (zeros, law.entries_none, lt-leb cap (2 * 0) (omega (arith, law.least_two, law.least_half)))
 
       with-exit : Exit (remove_at (parent (sizes S) i) S) (parent (sizes S) i) (HealRows.num_at S (parent (sizes S) i)) Ss s (up s) → Mended enc (remove_at (parent (sizes S) i) S) true i S Ss s (up s)
       with-exit x = record {

@@ -1,7 +1,6 @@
 -- DEFINITIONS and PROOFS. One level heals: a cut, a merge, a share, as steps of stacked rows held by a store
 use mathlib.Core.Path.{◌≡◌, refl, sym, ap, ◌∙◌}
 use mathlib.Core.List.{List, [], ◌∷◌, ◌++◌}
-use mathlib.Core.Bool.{false}
 use Prim.Native.Nat.{ℕ, zero, suc, ◌+◌, ◌-◌, ◌≤◌, ◌<◌}
 use native.Mathlib.Omega.{arith}
 use lib.ListN.{length, take, get_or}
@@ -35,8 +34,7 @@ spot (g ∷ gs) (x ∷ hs) i e h = elim (test (ltb i g)) [
       let q : x ≡ g = cc in
       let t : take (parent gs (i - g)) hs ≡ take (parent gs (i - g)) gs = cc in
       let z = spot gs hs (i - g) t (simp f at h) in
-      let f' : ltb i x ≡ false = rw q f in
-      simp (f, f', q) (ap suc z.0, z.1)
+      simp (f, q) (ap suc z.0, z.1)
 ]
 
 pub spot_next : (gs hs : List ℕ) (i : ℕ) → take (parent gs i) hs ≡ take (parent gs i) gs → get_or hs (parent gs i) 0 ≡ offset gs i → HealStack.Some hs → suc (parent gs i) < length hs →
@@ -59,8 +57,7 @@ spot_next (g ∷ gs) (x ∷ hs) i e h p l = elim (test (ltb i g)) [
       let t : take (parent gs (i - g)) hs ≡ take (parent gs (i - g)) gs = cc in
       let l' : suc (suc (parent gs (i - g))) < suc (length hs) = simp f at l in
       let z = spot_next gs hs (i - g) t (simp f at h) p.1 (omega arith) in
-      let f' : ltb i x ≡ false = rw q f in
-      simp (f, f', q) (ap suc z.0, z.1)
+      simp (f, q) (ap suc z.0, z.1)
 ]
 
 pub inside : (gs : List ℕ) (i : ℕ) → i < sum gs → suc (offset gs i) < get_or gs (parent gs i) 0 → suc i < sum gs

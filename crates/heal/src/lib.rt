@@ -119,6 +119,7 @@ fn heal_level<K: Heals>(
 }
 
 // The node at a level is empty: it is freed, and its parent loses it.
+// The crate's cycle of three is this one recursion: in a cycle of calls the check refuses a call "at other types or impls than the caller's own", as that of heal_level for the parent would be.
 fn empty_node(ws: &mut [u32], t: usize, c: Cursor, level: usize) -> Cursor
     requires { AskEmpty ws.old t c level }
     ensures { Leaves (emptied level) ws.old ws.new t c result }
