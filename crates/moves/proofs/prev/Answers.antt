@@ -2,7 +2,7 @@ use mathlib.Core.Path.{sym, ◌∙◌}
 use native.Mathlib.Omega.{arith}
 use Rattle.forest.specs.Cursors.{prev}
 use Rattle.moves.proofs.Neighbours.{standing-size}
-use Rattle.moves.proofs.Moving.{moved-standing, moved_ready}
+use Rattle.moves.proofs.Moving.{moved-standing}
 use Rattle.moves.proofs.Looking.{back_first, back_seen}
 use Rattle.forest.proofs.CursorCalls.{fits-prev}
 use Rattle.moves.proofs.prev.Goals as goal
@@ -15,11 +15,8 @@ pub returns-then-at_first_entry : goal.returns-then-at_first_entry
 returns-then-at_first_entry c =
     back_first c.args.ws.now c.args.t c.args.c c.requires.ready (sym c.at_first_entry.ensures ∙ c.if-at_first_entry.true)
 
-pub seen-requires : goal.seen-requires
-seen-requires c = record {
-  ready = moved_ready prev fits-prev c.args.ws.now c.args.c _ c.step_back.ensures c.args.t c.requires.ready c.requires.standing;
-  standing = moved-standing prev fits-prev c.args.ws.now c.args.c _ c.step_back.ensures c.requires.standing;
-}
+pub seen-requires-clause-standing : goal.seen-requires-clause-standing
+seen-requires-clause-standing c = moved-standing prev fits-prev c.args.ws.now c.args.c _ c.step_back.ensures c.requires.standing
 
 pub returns : goal.returns
 returns c =
