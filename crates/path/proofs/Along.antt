@@ -1,5 +1,5 @@
 -- PROOFS. A way down, from turn to turn of the loops that go it: at each turn a node is next, with some levels left
-use mathlib.Core.Path.{◌≡◌, refl, sym, ◌∙◌}
+use mathlib.Core.Path.{◌≡◌, sym, ◌∙◌}
 use mathlib.Core.List.{List}
 use Prim.Native.Nat.{ℕ, suc, ◌+◌, ◌-◌, ◌≤◌, ◌<◌}
 use native.Mathlib.Omega.{arith}
@@ -46,9 +46,6 @@ pub record WentDown (way : Way) (ws : List ℕ) (t : ℕ) (c : Cursor) (node lef
   pub room : out.size + f ≤ most_levels
   pub same : extended out (descend way f ws t n) ≡ extended c (descend way left ws t node)
 
-pub down_start : (way : Way) (ws : List ℕ) (t : ℕ) (c : Cursor) (node left f : ℕ) → Deep left ws t node → c.size + left ≤ most_levels → f ≡ left → WentDown way ws t c node left c node f
-down_start way ws t c node left f d h e = rw e (record { along = record { deep = d }; room = h; same = refl })
-
 module _ {way : Way} {ws : List ℕ} {t : ℕ} {c : Cursor} {node left : ℕ} {out : Cursor} {n f : ℕ} (d : WentDown way ws t c node left out n f) where
   pub down_end : f ≡ 0 → out ≡ extended c (descend way left ws t node)
   down_end e = sym (down_none way ws t out n f e) ∙ d.same
@@ -72,9 +69,6 @@ module _ {way : Way} {ws : List ℕ} {t : ℕ} {c : Cursor} {node left : ℕ} {o
 pub record WentBelow (way : Way) (ws : List ℕ) (t node left n f : ℕ) : Type 0 where
   pub along : Along ws t n f
   pub same : foot_of way f ws t n ≡ foot_of way left ws t node
-
-pub foot_start : (way : Way) (ws : List ℕ) (t node left f : ℕ) → Deep left ws t node → f ≡ left → WentBelow way ws t node left node f
-foot_start way ws t node left f d e = rw e (record { along = record { deep = d }; same = refl })
 
 module _ {way : Way} {ws : List ℕ} {t node left n f : ℕ} (d : WentBelow way ws t node left n f) where
   pub foot_done : f ≡ 0 → n ≡ foot_of way left ws t node

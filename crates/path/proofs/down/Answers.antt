@@ -1,10 +1,7 @@
 -- `path::down` meets its contract: at each turn the levels that are left go on from the cursor so far. Assumes nothing.
 use native.Mathlib.Omega.{arith}
-use Rattle.path.proofs.Along.{here, leaf_asks, inner_asks, child_few, down_start, down_end, down_ends, down_on}
+use Rattle.path.proofs.Along.{here, leaf_asks, inner_asks, child_few, down_end, down_ends, down_on}
 use Rattle.path.proofs.down.Goals as goal
-
-pub loop-init : goal.loop-init
-loop-init c = down_start _ _ _ _ _ _ _ c.requires.deep c.requires.t_le_most_trees.1 (omega arith)
 
 pub overflow_sub-b : goal.overflow_sub-b
 overflow_sub-b c = omega (arith, (here c.loop.invariant.along (omega arith)).some)
@@ -31,9 +28,6 @@ turn-i-requires c = let l = inner_asks c.loop.invariant.along (omega arith) c.if
   bound = l.0;
   keys_rise = l.1;
 }
-
-pub push-out-requires : goal.push-out-requires
-push-out-requires c = (omega (arith, c.loop.invariant.room), omega (arith, (child_few c.loop.invariant.along (omega arith) c.if-ws-b-ge32.false _ c.turn-i.ensures.1).0))
 
 pub bounds-ws-b-in-loop : goal.bounds-ws-b-in-loop
 bounds-ws-b-in-loop c = (child_few c.loop.invariant.along (omega arith) c.if-ws-b-ge32.false _ c.turn-i.ensures.1).1

@@ -1,10 +1,7 @@
 -- `path::leaf_below` meets its contract: at each turn the leaf is that below the node that is next. Assumes nothing.
 use native.Mathlib.Omega.{arith}
-use Rattle.path.proofs.Along.{here, inner_asks, child_few, foot_start, foot_done, foot_there, foot_goes}
+use Rattle.path.proofs.Along.{here, inner_asks, child_few, foot_done, foot_there, foot_goes}
 use Rattle.path.proofs.leaf_below.Goals as goal
-
-pub loop-init : goal.loop-init
-loop-init c = foot_start _ _ _ _ _ _ c.requires.deep (omega arith)
 
 pub overflow_sub-b : goal.overflow_sub-b
 overflow_sub-b c = omega (arith, (here c.loop.invariant.along (omega arith)).some)
