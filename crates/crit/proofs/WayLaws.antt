@@ -2,7 +2,7 @@
 use mathlib.Core.Path.{◌≡◌, sym, ap, ◌∙◌}
 use mathlib.Core.List.{List, [], ◌∷◌}
 use Rattle.std.specs.Prelude.{Some}
-use Prim.Native.Nat.{ℕ, suc, ◌≤◌, ◌<◌}
+use Prim.Native.Nat.{ℕ, suc, ◌-◌, ◌≤◌, ◌<◌}
 use native.Mathlib.Omega.{arith}
 use lib.ListN.{length, get_or}
 use lib.Dec.{ltb, eqb}
@@ -165,3 +165,10 @@ module _ {ws : List ℕ} {t : ℕ} {c : Cursor} {level : ℕ} (y : Route ws t c 
 
   pub way_word : (l : ℕ) → l < level → (w : List ℕ) → w ≡ block ws t (get_or c.nodes l 0) → get_or w 0 0 ≤ 23
   way_word l h w e = rw e (way_few l h)
+
+-- there is a level above
+pub above : {level : ℕ} → (level ≡ 0 → ⊥) → suc (level - 1) ≡ level
+above h = omega arith
+
+pub less : {level : ℕ} → (level ≡ 0 → ⊥) → level - 1 < level
+less h = omega arith

@@ -1,4 +1,3 @@
-use Prim.Native.Nat.{◌-◌}
 use native.Mathlib.Omega.{arith}
 use mathlib.Core.Path.{refl}
 use Rattle.crit.proofs.WayLaws
@@ -6,13 +5,13 @@ use Rattle.crit.proofs.LeftLaws
 use Rattle.crit.proofs.+current_crit_key.Goals as goal
 
 pub current_crit_key-requires : goal.current_crit_key-requires
-current_crit_key-requires t c = (omega (arith, c.decreases, c.if-level-eq0.false), WayLaws.way_up c.requires (c.args.level - 1) (omega (arith, c.if-level-eq0.false)))
+current_crit_key-requires t c = (omega (arith, c.decreases, c.if-level-eq0.false), WayLaws.way_up c.requires _ (WayLaws.above c.if-level-eq0.false))
 
 pub load-w-requires : goal.load-w-requires
-load-w-requires t c = WayLaws.way_placed c.requires (c.args.level - 1) (omega (arith, c.if-level-eq0.false))
+load-w-requires t c = WayLaws.way_placed c.requires _ (WayLaws.less c.if-level-eq0.false)
 
 pub bounds-w-p : goal.bounds-w-p
-bounds-w-p t c = omega (arith, WayLaws.way_small c.requires (c.args.level - 1) (omega (arith, c.if-level-eq0.false)))
+bounds-w-p t c = omega (arith, WayLaws.way_small c.requires _ (WayLaws.less c.if-level-eq0.false))
 
 pub returns : goal.returns
-returns t c = LeftLaws.crit_here c.requires (c.args.level - 1) (omega (arith, c.if-level-eq0.false)) c.load-w.result _ c.load-w.ensures refl c.if-p-eq0.false
+returns t c = LeftLaws.crit_here c.requires _ (WayLaws.above c.if-level-eq0.false) c.load-w.result _ c.load-w.ensures refl c.if-p-eq0.false

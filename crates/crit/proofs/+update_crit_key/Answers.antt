@@ -1,4 +1,3 @@
-use Prim.Native.Nat.{◌-◌}
 use native.Mathlib.Omega.{arith}
 use mathlib.Core.Path.{refl}
 use Rattle.crit.proofs.WayLaws
@@ -9,16 +8,16 @@ pub returns-then-level-eq0 : goal.returns-then-level-eq0
 returns-then-level-eq0 t c = LeftLaws.left_root c.args.key c.args.level (omega (arith, c.if-level-eq0.true))
 
 pub update_crit_key-requires : goal.update_crit_key-requires
-update_crit_key-requires t c = (omega (arith, c.decreases, c.if-level-eq0.false), WayLaws.way_up c.requires (c.args.level - 1) (omega (arith, c.if-level-eq0.false)))
+update_crit_key-requires t c = (omega (arith, c.decreases, c.if-level-eq0.false), WayLaws.way_up c.requires _ (WayLaws.above c.if-level-eq0.false))
 
 pub load-w-requires : goal.load-w-requires
-load-w-requires t c = WayLaws.way_placed c.requires (c.args.level - 1) (omega (arith, c.if-level-eq0.false))
+load-w-requires t c = WayLaws.way_placed c.requires _ (WayLaws.less c.if-level-eq0.false)
 
 pub bounds-w-p : goal.bounds-w-p
-bounds-w-p t c = omega (arith, WayLaws.way_small c.requires (c.args.level - 1) (omega (arith, c.if-level-eq0.false)))
+bounds-w-p t c = omega (arith, WayLaws.way_small c.requires _ (WayLaws.less c.if-level-eq0.false))
 
 pub store-requires : goal.store-requires
-store-requires t c = WayLaws.way_placed c.requires (c.args.level - 1) (omega (arith, c.if-level-eq0.false))
+store-requires t c = WayLaws.way_placed c.requires _ (WayLaws.less c.if-level-eq0.false)
 
 pub returns : goal.returns
-returns t c = LeftLaws.left_here c.requires (c.args.level - 1) (omega (arith, c.if-level-eq0.false)) c.load-w.result _ _ c.args.key c.load-w.ensures refl c.if-p-eq0.false c.store.ensures
+returns t c = LeftLaws.left_here c.requires _ (WayLaws.above c.if-level-eq0.false) c.load-w.result _ _ c.args.key c.load-w.ensures refl c.if-p-eq0.false c.store.ensures
