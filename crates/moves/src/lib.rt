@@ -189,7 +189,8 @@ impl<'a> MapCursor<'a> {
         self.moved(self.normal_place())
     }
 
-    // Where the pair before is; from off the end the last pair; from the first pair that one.
+    // Where the pair before is; from off the end the last pair; from the first pair that one. Off the end it goes on from the cursor that
+    // is there, and does not make one anew as `go` in path does.
     fn place_before(self) -> Cursor
         ensures { Steps prev self.entry.words.now self.entry.cursor result }
     {
