@@ -75,7 +75,7 @@ fits-seek m k (L ∷ Rs) lo g =
     let s = lands m 7 k L Rs lo g in
     simp (lt-ltb 0 (length L) (tower_some L Rs g.2)) (s.at, rw (← length-items L (leaf_of k L)) (place_le k (leaf_items k L)))
 
-fits-settle : (L : Row) (s : Spot) → Fits L s → Fits L (settle L s)
+pub fits-settle : (L : Row) (s : Spot) → Fits L s → Fits L (settle L s)
 fits-settle L off f = tt
 fits-settle L (on j e) f = elim (test (ltb e (size_at L j))) [ is c ↦ simp c f | isnt c ↦ simp c (fits_start L (suc j)) ]
 

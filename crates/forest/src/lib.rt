@@ -39,7 +39,7 @@ pub enum Hit {
 // What a call answers: what it finds, if anything, or why it is refused.
 pub type Reply = Result<Option<Hit>, Refusal>;
 
-// An answer in document 01's numbers.
+// An answer in document 01's numbers. The C interface has `found` as a field beside the value.
 #[repr(C)]
 #[derive(Clone, Copy, Debug, PartialEq, Eq)]
 pub struct Answer {
@@ -49,7 +49,7 @@ pub struct Answer {
     pub value: u32,
 }
 
-// A place in a tree: of each level from the root the node and the place in it; unused levels hold 0.
+// A place in a tree: of each level from the root the node and the place in it; unused levels hold 0. Size and two arrays are the C interface.
 #[repr(C)]
 #[derive(Clone, Copy, Debug, PartialEq, Eq)]
 pub struct Cursor {

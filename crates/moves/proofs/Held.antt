@@ -2,17 +2,14 @@
 use mathlib.Core.Path.{◌≡◌, sym, ap, ◌∙◌}
 use mathlib.Core.List.{List}
 use mathlib.Core.Bool.{true}
-use Prim.Native.Nat.{ℕ, suc, ◌+◌, ◌<◌}
+use Prim.Native.Nat.{ℕ, ◌+◌, ◌<◌}
 use native.Mathlib.Omega.{arith}
 use lib.ListN.{length, get_or}
-use lib.Dec.{ltb}
 use Rattle.forest.specs.Sizes.{leaf_least, most_levels}
 use Rattle.forest.specs.Rows.{Row}
 use Rattle.forest.specs.Pools.{tree_of}
-use Rattle.forest.specs.Cursors.{Spot, off, on, size_at, Fits, settle}
+use Rattle.forest.specs.Cursors.{Spot}
 use Rattle.forest.specs.declared.Cursor.{Cursor}
-use Rattle.forest.proofs.ListLaws.{is, isnt, test}
-use Rattle.forest.proofs.CursorCalls.{fits_start}
 use Rattle.forest.proofs.PoolLaws.{good_at}
 use Rattle.forest.proofs.Six.{six_levels}
 use Rattle.forest.proofs.StandLaws.{stands_yes, yes_stands}
@@ -36,11 +33,6 @@ cursor_ready x = record { sound = check_yes x.words.now leaf_least x.sound; tree
 
 pub cursor_stands : (x : MapCursor) → length x.cursor.nodes ≡ most_levels → length x.cursor.places ≡ most_levels → Standing x.words.now x.cursor
 cursor_stands x ln lp = record { stand = λ p o. yes_stands (tree_of p x.cursor.tree) x.cursor ln lp (sym (stands_words x.words.now x.trees x.cursor (cursor_ready x) p o) ∙ x.stands) }
-
--- where settle comes to is a spot that a cursor can stand at
-pub fits_settle : (L : Row) (s : Spot) → Fits L s → Fits L (settle L s)
-fits_settle L off f = tt
-fits_settle L (on j e) f = elim (test (ltb e (size_at L j))) [ is c ↦ simp c f | isnt c ↦ simp c (fits_start L (suc j)) ]
 
 -- the pool that ready words are of
 pool_of : (ws : List ℕ) (t tree : ℕ) (y : Ready ws t tree) → Of ws y.sound.pool
