@@ -21,7 +21,6 @@ pub record KindLaws (c a i : ℕ) (words : List Item → List ℕ) (items : List
   pub small : (2 ≤ c) × (c ≤ 7 + i) × (a ≤ 32) × (i ≤ 1)
   -- such words are those of a node
   pub is : (w : List ℕ) → Is w → Node c a words items w
-  pub made : (w : List ℕ) → Node c a words items w → Is w
   -- items are written like this
   pub written : (x : Item) (xs : List Item) → words (x ∷ xs) ≡ laid a i (x ∷ xs)
   -- and read one by one; a key that is stored nowhere reads 0
@@ -29,27 +28,26 @@ pub record KindLaws (c a i : ℕ) (words : List Item → List ℕ) (items : List
   pub read : (w : List ℕ) → items w ≡ tabulate (item w) 0 (get_or w 0 0 - a)
   pub first : (w : List ℕ) → keyed i 0 (item w 0 ∷ []) ≡ item w 0 ∷ []
 
--- leaves do
+-- leaves do; what a trait's law rests on stands in specs/, since src/ can name no file of proofs/
 abbrev pub leaf_laws : KindLaws 7 32 0 leaf_words leaf_pairs Leaf
 leaf_laws = record {
   small = (lit≤ tt, lit≤ tt, lit≤ tt, lit≤ tt);
   is = λ w h. record { some = h.some; few = h.few; same = h.same };
-  made = λ w h. record { some = h.some; few = h.few; same = h.same };
   written = λ x xs. refl;
   item = leaf_item;
   read = λ w. refl;
   first = λ w. refl;
 }
 
--- and inner nodes, of whose items there is one more than of keys
+-- an inner node has a child more than keys
 pub inner_written : (x : Item) (xs : List Item) → inner_words (x ∷ xs) ≡ laid 15 1 (x ∷ xs)
 inner_written x xs = ap (λ (n : ℕ). n ∷ drop 1 (laid 15 1 (x ∷ xs))) (ap (λ (n : ℕ). 16 + n) (sub-one (suc (length xs))) ∙ suc-add 15 (length xs) ∙ sym (add-suc 15 (length xs)))
 
+-- and inner nodes
 abbrev pub inner_laws : KindLaws 8 15 1 inner_words inner_items Inner
 inner_laws = record {
   small = (lit≤ tt, lit≤ tt, lit≤ tt, lit≤ tt);
   is = λ w h. record { some = h.some; few = h.few; same = h.same };
-  made = λ w h. record { some = h.some; few = h.few; same = h.same };
   written = inner_written;
   item = inner_item;
   read = λ w. refl;

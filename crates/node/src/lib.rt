@@ -245,8 +245,9 @@ pub fn remove<K: Kind>(w: [u32; 16], at: usize) -> Cut
     ensures { (result.words ≡ cut_of K.TAG K.words K.items w at) × (result.status ≡ status_of K.CAPACITY at (get_or w 0 0 - suc K.TAG)) }
 {
     let others = unpack::<K>(w, 0).remove(at);
-    let status = Removed::new(at, others.count, K::CAPACITY);
-    if others.count == 0 {
+    let left = others.count;
+    let status = Removed::new(at, left, K::CAPACITY);
+    if left == 0 {
         return Cut {
             words: [0; 16],
             status,

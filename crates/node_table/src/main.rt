@@ -96,6 +96,7 @@ fn title(rt: &impl Print, kind: &str, name: &str, n: usize, at: usize) -> io::Re
     print!(rt; "{kind}_{name} {n} {at}")
 }
 
+// The words of a node.
 fn words(rt: &impl Print, w: [u32; 16]) -> io::Result<()> {
     print!(rt; " :")?;
     for x in w {
@@ -104,6 +105,7 @@ fn words(rt: &impl Print, w: [u32; 16]) -> io::Result<()> {
     Ok(())
 }
 
+// Both halves, and the right one's first key.
 fn halves(rt: &impl Print, s: SplitOff) -> io::Result<()> {
     words(rt, s.left)?;
     words(rt, s.right)?;
@@ -111,6 +113,7 @@ fn halves(rt: &impl Print, s: SplitOff) -> io::Result<()> {
     print!(rt; " {key}")
 }
 
+// What is left, and how it stands: 0 healthy, 1 rightmost, 2 underflow, 3 empty.
 fn cut(rt: &impl Print, c: Cut) -> io::Result<()> {
     words(rt, c.words)?;
     let status = c.status as u8;
@@ -132,6 +135,7 @@ fn balanced(rt: &impl Print, b: Balanced) -> io::Result<()> {
     }
 }
 
+// A child more, right of child `index`.
 fn insert(rt: &impl Print, n: usize, index: usize) -> io::Result<()>
     requires { 1 ≤ n }
 {
@@ -146,6 +150,7 @@ fn insert(rt: &impl Print, n: usize, index: usize) -> io::Result<()>
     Ok(())
 }
 
+// A full node cut in two, with an item at place `at`, or right of child `at`.
 fn split<K: Sample>(rt: &impl Print, n: usize, at: usize) -> io::Result<()> {
     if n == K::CAPACITY && at <= K::CAPACITY - K::HIDDEN {
         let place = at + K::HIDDEN;
@@ -156,6 +161,7 @@ fn split<K: Sample>(rt: &impl Print, n: usize, at: usize) -> io::Result<()> {
     Ok(())
 }
 
+// An item less, the one at place `at`.
 fn remove<K: Sample>(rt: &impl Print, n: usize, at: usize) -> io::Result<()>
     requires { 1 ≤ n }
 {
@@ -166,6 +172,7 @@ fn remove<K: Sample>(rt: &impl Print, n: usize, at: usize) -> io::Result<()>
     Ok(())
 }
 
+// Two nodes, of n items and of m.
 fn balance<K: Sample>(rt: &impl Print, n: usize, m: usize) -> io::Result<()>
     requires { 1 ≤ n }
 {

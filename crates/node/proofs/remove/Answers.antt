@@ -11,16 +11,11 @@ use Rattle.node.proofs.ItemLaws.{counted, remove_items}
 use Rattle.node.proofs.Steps.{cut_none, cut_some}
 use Rattle.node.proofs.remove.Goals as goal
 
-pub returns-then-others-eq0 : goal.returns-then-others-eq0
-returns-then-others-eq0 g c =
+pub returns-then-left-eq0 : goal.returns-then-left-eq0
+returns-then-left-eq0 g c =
     let n = counted c.remove-others.ensures in
     let e : c.remove-others.result.count ≡ get_or c.args.w 0 0 - suc g.K.Kind.TAG = omega arith in
     (cut_none g.K.Kind.TAG g.K.Kind.words g.K.Kind.items c.args.w c.args.at (omega arith), cc)
-
-pub pack-requires : goal.pack-requires
-pack-requires g c =
-    let n = counted c.remove-others.ensures in
-    (omega arith, omega (arith, (g.K.Kind.laws.is c.args.w c.requires.0).few))
 
 pub returns : goal.returns
 returns g c =
