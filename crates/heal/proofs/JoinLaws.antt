@@ -1,6 +1,6 @@
 -- PROOFS. A cut, a node that stays small, two neighbours that join: over the kind of the nodes
 use mathlib.Core.Path.{◌≡◌, refl, sym, ap, ◌∙◌, subst}
-use mathlib.Core.List.{List, ◌++◌}
+use mathlib.Core.List.{List}
 use mathlib.Core.Bool.{true, false, true≢false}
 use Rattle.std.specs.Prelude.{Some}
 use Prim.Native.Nat.{ℕ, suc, ◌+◌, ◌-◌, ◌≤◌, ◌<◌}
@@ -10,12 +10,12 @@ use lib.Dec.{ltb, leb}
 use borrow.Author.Tests.{lt-ltb, le-ltb}
 use Rattle.forest.specs.Lists.{remove_at, parent, offset}
 use Rattle.forest.specs.Pairs.{Item}
-use Rattle.forest.specs.Rows.{nums, sizes}
+use Rattle.forest.specs.Rows.{front, nums, sizes}
 use Rattle.forest.specs.declared.Cursor.{Cursor}
 use Rattle.forest.proofs.ListLaws.{is, isnt, test, length-remove_at, offset_lt}
 use Rattle.forest.proofs.RowLaws.{fill_at}
 use Rattle.pool.specs.Stores.{put, block, with_block, Placed}
-use Rattle.node.specs.Nodes.{status_of, keep, keyed, cut_of, split_of, balance_of}
+use Rattle.node.specs.Nodes.{status_of, keep, cut_of, split_of, balance_of}
 use Rattle.node.specs.declared.SplitOff.{SplitOff}
 use Rattle.node.specs.declared.Balanced.TheVariants.{Merged, Shared}
 use Rattle.node.specs.declared.Removed.{Removed}
@@ -24,6 +24,7 @@ use Rattle.node.proofs.OnItems.{is_merged, is_shared}
 use Rattle.crit.specs.States.{right_sibling, right_set, hand_key, stored}
 use Rattle.crit.specs.Asks.{Mem, moved, Spelt, Route, Leaves, off_end}
 use Rattle.heal.specs.Cycle.{Kind, left, fits, gathered, shared, stayed, AskHeal, AskJoin, AskCut, Joined, Cuts}
+use Rattle.heal.specs.Steps.{Ops, both, ops_of}
 use Rattle.heal.specs.Kinds.{HealLaws}
 use Rattle.crit.proofs.HealMem
 use Rattle.crit.proofs.SpeltLaws.{spelt_block, spelt_placed, spelt_store, spelt_level, same_count}
@@ -36,14 +37,47 @@ module _ {k : Kind} {cap tag hid : ℕ} {words : List Item → List ℕ} {items 
   abbrev law : Lawful k.ops k.words k.cap k.low
   law = laws.lawful
 
+  same_ops : k.ops ≡ ops_of tag hid words items
+  same_ops = ap (λ (x : Kind). x.ops) laws.same
+
+  same_words : words ≡ k.words
+  same_words = sym (ap (λ (x : Kind). x.words) laws.same)
+
+  same_cap : cap ≡ k.cap
+  same_cap = sym (ap (λ (x : Kind). x.cap) laws.same)
+
+  sixteen : (xs : List Item) → length (k.words xs) ≡ 16
+  sixteen xs = ap (λ (f : List Item → List ℕ). length (f xs)) (sym same_words) ∙ laws.sixteen xs
+
+  is_node : (xs : List Item) → 1 ≤ length xs → length xs ≤ k.cap → Is (k.words xs)
+  is_node xs h f = rw (← same_words) (laws.is xs h (rw same_cap f))
+
+  counted : (xs : List Item) → 1 ≤ length xs → get_or (k.words xs) 0 0 ≡ tag + length xs
+  counted xs h = rw (← same_words) (laws.counts xs h)
+
   -- the items of two neighbours with a key between them
-  abbrev both : List ℕ → List ℕ → ℕ → List Item
-  both w v key = items w ++ keyed hid key (items v)
+  abbrev pair : List ℕ → List ℕ → ℕ → List Item
+  pair = both tag hid words items
+
+  pair_size : (w v : List ℕ) (key : ℕ) → length (pair w v key) ≡ k.ops.entries w + k.ops.entries v
+  pair_size w v key = laws.size w v key ∙ sym (ap (λ (o : Ops). o.entries w + o.entries v) same_ops)
+
+  gathers : (w v : List ℕ) (key : ℕ) → k.ops.gather w v key ≡ k.words (pair w v key)
+  gathers w v key = ap (λ (o : Ops). o.gather w v key) same_ops ∙ ap (λ (f : List Item → List ℕ). f (pair w v key)) same_words
+
+  lefts : (w v : List ℕ) (key : ℕ) → k.ops.left w v key ≡ k.words (take (keep (pair w v key)) (pair w v key))
+  lefts w v key = ap (λ (o : Ops). o.left w v key) same_ops ∙ ap (λ (f : List Item → List ℕ). f (take (keep (pair w v key)) (pair w v key))) same_words
+
+  rights : (w v : List ℕ) (key : ℕ) → k.ops.right w v key ≡ k.words (drop (keep (pair w v key)) (pair w v key))
+  rights w v key = ap (λ (o : Ops). o.right w v key) same_ops ∙ ap (λ (f : List Item → List ℕ). f (drop (keep (pair w v key)) (pair w v key))) same_words
+
+  mids : (w v : List ℕ) (key : ℕ) → k.ops.mid w v key ≡ front (drop (keep (pair w v key)) (pair w v key))
+  mids w v key = ap (λ (o : Ops). o.mid w v key) same_ops
 
   -- the words of a node without an item
   cut_length : (xs : List Item) (p : ℕ) → p < length xs → length xs ≤ k.cap → length (k.ops.cut (k.words xs) p) ≡ 16
   cut_length xs p h f = elim (test (ltb 1 (length xs))) [
-    | is e ↦ ap length (law.cut_is xs p h (borrow.Author.Tests.ltb-true 1 (length xs) e) f) ∙ laws.sixteen (remove_at p xs)
+    | is e ↦ ap length (law.cut_is xs p h (borrow.Author.Tests.ltb-true 1 (length xs) e) f) ∙ sixteen (remove_at p xs)
     | isnt e ↦ ap length (law.cut_none xs p (let z = borrow.Author.Tests.ltb-false 1 (length xs) e in omega arith))
   ]
 
@@ -74,16 +108,16 @@ module _ {k : Kind} {cap tag hid : ℕ} {words : List Item → List ℕ} {items 
 
     module _ (w : List ℕ) (e : w ≡ block ws t (get_or c.nodes l 0)) where
       pub cut_asks : Is w × (get_or c.places l 0 < get_or w 0 0 - tag)
-      cut_asks = rw (e ∙ cut-block) (laws.is a.items (omega (arith, cut_place)) a.room, omega (arith, cut_place, laws.counts a.items (omega (arith, cut_place))))
+      cut_asks = rw (e ∙ cut-block) (is_node a.items (omega (arith, cut_place)) a.room, omega (arith, cut_place, counted a.items (omega (arith, cut_place))))
 
       pub cuts : {vs cw : List ℕ} {status : Removed} → vs ≡ with_block ws t (get_or c.nodes l 0) cw → cw ≡ cut_of tag words items w (get_or c.places l 0) →
           status ≡ status_of cap (get_or c.places l 0) (get_or w 0 0 - suc tag) → Cuts k ws vs t c l status
       cuts {vs} {cw} {status} v0 cq q0 =
           let lo : 1 ≤ get_or c.nodes l 0 = rw cut_name a.some in
           let hi : get_or c.nodes l 0 ≤ a.mem.count = rw cut_name a.few in
-          let n0 : get_or w 0 0 ≡ tag + length a.items = rw (e ∙ cut-block) (laws.counts a.items (omega (arith, cut_place))) in
-          let v : vs ≡ with_block ws t (get_or c.nodes l 0) (k.ops.cut (k.words a.items) (get_or c.places l 0)) = v0 ∙ rw (cq, ← (laws.cut w (get_or c.places l 0)), e, cut-block) in
-          let q : status ≡ status_of k.cap (get_or c.places l 0) (length a.items - 1) = q0 ∙ rw laws.same_cap (ap (status_of k.cap (get_or c.places l 0)) (omega (arith, n0))) in
+          let n0 : get_or w 0 0 ≡ tag + length a.items = rw (e ∙ cut-block) (counted a.items (omega (arith, cut_place))) in
+          let v : vs ≡ with_block ws t (get_or c.nodes l 0) (k.ops.cut (k.words a.items) (get_or c.places l 0)) = v0 ∙ rw (cq, ← (ap (λ (o : Ops). o.cut w (get_or c.places l 0)) same_ops), e, cut-block) in
+          let q : status ≡ status_of k.cap (get_or c.places l 0) (length a.items - 1) = q0 ∙ rw same_cap (ap (status_of k.cap (get_or c.places l 0)) (omega (arith, n0))) in
           record {
             leaves = λ m sp.
                 let n = sp.nodes l a.deep in
@@ -121,7 +155,7 @@ module _ {k : Kind} {cap tag hid : ℕ} {words : List Item → List ℕ} {items 
     here_words w e = e ∙ here-block
 
     pub here_is : (w : List ℕ) → w ≡ block ws t (get_or c.nodes level 0) → Is w
-    here_is w e = rw (here_words w e) (laws.is here.items here.one here.room)
+    here_is w e = rw (here_words w e) (is_node here.items here.one here.room)
 
     left_of_lem : (m : Mem) → Spelt ws t c m → left k m.s level ≡ length here.items
     left_of_lem m sp = ap k.ops.entries (sym (here_of m sp) ∙ here-block) ∙ law.entries_is here.items here.one
@@ -134,7 +168,7 @@ module _ {k : Kind} {cap tag hid : ℕ} {words : List Item → List ℕ} {items 
     -- it stays small
     module _ (w : List ℕ) (e : w ≡ block ws t (get_or c.nodes level 0)) where
       pub here_count : get_or w 0 0 ≡ tag + length here.items
-      here_count = rw (here_words w e) (laws.counts here.items here.one)
+      here_count = rw (here_words w e) (counted here.items here.one)
 
       pub stays_on : get_or c.places level 0 < get_or w 0 0 - tag → Leaves (λ s. stayed k s level) ws ws t c c
       stays_on h = record {
@@ -165,7 +199,7 @@ module _ {k : Kind} {cap tag hid : ℕ} {words : List Item → List ℕ} {items 
     mate_words v e = e ∙ spelt_block j.heal.spelt node mate.some mate.few ∙ mate.words
 
     pub mate_is : (v : List ℕ) → v ≡ block ws t node → Is v
-    mate_is v e = rw (mate_words v e) (laws.is mate.items mate.one mate.room)
+    mate_is v e = rw (mate_words v e) (is_node mate.items mate.one mate.room)
 
     mate-of : (m : Mem) → Spelt ws t c m → block ws t node ≡ m.s.st node
     mate-of m sp = spelt_block sp node mate.some (rw (← (same_count j.heal.spelt sp)) mate.few)
@@ -176,25 +210,25 @@ module _ {k : Kind} {cap tag hid : ℕ} {words : List Item → List ℕ} {items 
     -- storing the neighbour's words, and both
     module _ (w v : List ℕ) (ew : w ≡ block ws t (get_or c.nodes level 0)) (ev : v ≡ block ws t node) where
       abbrev us : List Item
-      us = both w v key
+      us = pair w v key
 
       fits-of : (m : Mem) (x : Item) → Spelt ws t c m → right_sibling m.s.st m.s.ns m.s.ps level ≡ Some x → leb (length us) k.cap ≡ fits k m.s level x
       fits-of m x sp e =
           let q : ◌≡◌ {A = Item} (key, node) x = cc (j.finds.run m sp, e) in
           subst (λ (x : Item). leb (length us) k.cap ≡ fits k m.s level x) q
-          (ap (λ (n : ℕ). leb n k.cap) (laws.size w v key ∙ rw (ew ∙ here_of j.heal m sp, ev ∙ mate-of m sp)))
+          (ap (λ (n : ℕ). leb n k.cap) (pair_size w v key ∙ rw (ew ∙ here_of j.heal m sp, ev ∙ mate-of m sp)))
 
       -- all to the right
       module _ (all : List ℕ) (ea0 : Merged all ≡ balance_of words cap us) where
         ea : Merged all ≡ balance_of k.words k.cap us
-        ea = ea0 ∙ rw (laws.same_words, laws.same_cap)
+        ea = ea0 ∙ rw (same_words, same_cap)
 
         full : all ≡ k.ops.gather w v key
-        full = (is_merged k.words k.cap us ea).1 ∙ sym (laws.gather w v key)
+        full = (is_merged k.words k.cap us ea).1 ∙ sym (gathers w v key)
 
         module _ (vs : List ℕ) (e1 : vs ≡ with_block ws t node all) where
           stored-right : (m : Mem) → Spelt ws t c m → Spelt vs t c (moved m (stored m.s (put m.s.st node all)))
-          stored-right m sp = rw e1 (spelt_store sp node mate.some (hi_of m sp) all (ap length (full ∙ laws.gather w v key) ∙ laws.sixteen us))
+          stored-right m sp = rw e1 (spelt_store sp node mate.some (hi_of m sp) all (ap length (full ∙ gathers w v key) ∙ sixteen us))
 
           pub way_gathered : Route vs t c level
           way_gathered =
@@ -216,23 +250,23 @@ module _ {k : Kind} {cap tag hid : ℕ} {words : List Item → List ℕ} {items 
       -- they share
       module _ (b : SplitOff) (eb0 : Shared b ≡ balance_of words cap us) where
         eb : Shared b ≡ balance_of k.words k.cap us
-        eb = eb0 ∙ rw (laws.same_words, laws.same_cap)
+        eb = eb0 ∙ rw (same_words, same_cap)
 
         parts : b ≡ split_of k.words (keep us) us
         parts = (is_shared k.words k.cap us eb).1
 
         half-left : b.left ≡ k.ops.left w v key
-        half-left = ap (λ (x : SplitOff). x.left) parts ∙ sym (laws.left w v key)
+        half-left = ap (λ (x : SplitOff). x.left) parts ∙ sym (lefts w v key)
 
         half-right : b.right ≡ k.ops.right w v key
-        half-right = ap (λ (x : SplitOff). x.right) parts ∙ sym (laws.right w v key)
+        half-right = ap (λ (x : SplitOff). x.right) parts ∙ sym (rights w v key)
 
         half-key : b.key ≡ k.ops.mid w v key
-        half-key = ap (λ (x : SplitOff). x.key) parts ∙ sym (laws.mid w v key)
+        half-key = ap (λ (x : SplitOff). x.key) parts ∙ sym (mids w v key)
 
         module _ (vs us' : List ℕ) (e1 : vs ≡ with_block ws t (get_or c.nodes level 0) b.left) (e2 : us' ≡ with_block vs t node b.right) where
           left-length : length b.left ≡ 16
-          left-length = ap length (half-left ∙ laws.left w v key) ∙ laws.sixteen (take (keep us) us)
+          left-length = ap length (half-left ∙ lefts w v key) ∙ sixteen (take (keep us) us)
 
           stored-left : (m : Mem) → Spelt ws t c m → Spelt vs t c (moved m (stored m.s (put m.s.st (m.s.ns level) b.left)))
           stored-left m sp =
@@ -241,7 +275,7 @@ module _ {k : Kind} {cap tag hid : ℕ} {words : List Item → List ℕ} {items 
               (rw e1 (spelt_store sp (get_or c.nodes level 0) (rw (name j.heal) (here j.heal).some) (rw (name j.heal, ← (same_count j.heal.spelt sp)) (here j.heal).few) b.left left-length))
 
           stored-both : (m : Mem) → Spelt ws t c m → Spelt us' t c (moved m (stored m.s (put (put m.s.st (m.s.ns level) b.left) node b.right)))
-          stored-both m sp = rw e2 (spelt_store (stored-left m sp) node mate.some (hi_of m sp) b.right (ap length (half-right ∙ laws.right w v key) ∙ laws.sixteen (drop (keep us) us)))
+          stored-both m sp = rw e2 (spelt_store (stored-left m sp) node mate.some (hi_of m sp) b.right (ap length (half-right ∙ rights w v key) ∙ sixteen (drop (keep us) us)))
 
           pub left_placed : Placed vs t node
           left_placed = spelt_placed (stored-left j.heal.mem j.heal.spelt) node mate.some mate.few

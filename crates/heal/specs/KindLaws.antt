@@ -30,18 +30,11 @@ leaf_law low two half = record {
 pub leaf_heals : HealLaws leaf_kind 7 32 0 leaf_words leaf_pairs Leaf
 leaf_heals = record {
   lawful = leaf_law 3 (omega arith) (omega arith);
-  same_cap = refl;
-  same_words = refl;
+  same = refl;
   is = leaf_is;
   sixteen = leaf_length;
   counts = λ xs h. refl;
-  entries = λ w. refl;
-  cut = λ w o. refl;
   size = λ w v k. length-append (leaf_pairs w) (leaf_pairs v) ∙ rw (length_pairs w, length_pairs v);
-  gather = λ w v k. refl;
-  left = λ w v k. refl;
-  right = λ w v k. refl;
-  mid = λ w v k. refl;
 }
 
 -- an inner node's operations do to items what they should
@@ -63,16 +56,9 @@ inner_law = record {
 pub inner_heals : HealLaws inner_kind 8 15 1 inner_words inner_items Inner
 inner_heals = record {
   lawful = inner_law;
-  same_cap = refl;
-  same_words = refl;
+  same = refl;
   is = inner_is;
   sixteen = inner_length;
   counts = λ xs h. omega arith;
-  entries = λ w. refl;
-  cut = λ w o. refl;
   size = λ w v k. length-append (inner_items w) (rekey_at 0 k (inner_items v)) ∙ rw (length-items w, length-rekey_at 0 k (inner_items v), length-items v);
-  gather = λ w v k. refl;
-  left = λ w v k. refl;
-  right = λ w v k. refl;
-  mid = λ w v k. refl;
 }

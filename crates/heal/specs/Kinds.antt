@@ -3,8 +3,8 @@ use Rattle.std.specs.Prelude.{◌≡◌, List, [], ◌++◌, ℕ, suc, ◌+◌, 
 use Rattle.forest.specs.Lists.{remove_at, pad}
 use Rattle.forest.specs.Pairs.{Item}
 use Rattle.forest.specs.Rows.{front}
-use Rattle.node.specs.Nodes.{keep, keyed, cut_of}
-use Rattle.heal.specs.Steps.{Ops}
+use Rattle.node.specs.Nodes.{keep}
+use Rattle.heal.specs.Steps.{Ops, both, ops_of}
 use Rattle.heal.specs.Cycle.{Kind}
 
 -- what the operations on a node's words do to the words of items, with capacity and least fill
@@ -23,18 +23,11 @@ pub record Lawful (o : Ops) (enc : List Item → List ℕ) (cap low : ℕ) : Typ
   pub mid_is : (xs ys : List Item) → 1 ≤ length xs → length xs ≤ cap → length ys ≤ cap → cap < length xs + length ys →
       o.mid (enc xs) (enc ys) (front ys) ≡ front (drop (keep (xs ++ ys)) (xs ++ ys))
 
--- the same of a kind, whose operations are those of the nodes of capacity c, whose first word adds a to the number of items, and of which i first keys are stored nowhere
-pub record HealLaws (k : Kind) (c a i : ℕ) (words : List Item → List ℕ) (items : List ℕ → List Item) (Is : List ℕ → Type 0) : Type 0 where
+-- the same of a kind, which is that of the nodes of capacity c, whose first word adds t to the number of items and of which h first keys are stored nowhere
+pub record HealLaws (k : Kind) (c t h : ℕ) (words : List Item → List ℕ) (items : List ℕ → List Item) (Is : List ℕ → Type 0) : Type 0 where
+  pub same : k ≡ record { ops = ops_of t h words items; words = words; cap = c; low = k.low }
   pub lawful : Lawful k.ops k.words k.cap k.low
-  pub same_cap : c ≡ k.cap
-  pub same_words : words ≡ k.words
-  pub is : (xs : List Item) → 1 ≤ length xs → length xs ≤ k.cap → Is (k.words xs)
-  pub sixteen : (xs : List Item) → length (k.words xs) ≡ 16
-  pub counts : (xs : List Item) → 1 ≤ length xs → get_or (k.words xs) 0 0 ≡ a + length xs
-  pub entries : (w : List ℕ) → k.ops.entries w ≡ get_or w 0 0 - a
-  pub cut : (w : List ℕ) (o : ℕ) → k.ops.cut w o ≡ cut_of a words items w o
-  pub size : (w v : List ℕ) (key : ℕ) → length (items w ++ keyed i key (items v)) ≡ k.ops.entries w + k.ops.entries v
-  pub gather : (w v : List ℕ) (key : ℕ) → k.ops.gather w v key ≡ k.words (items w ++ keyed i key (items v))
-  pub left : (w v : List ℕ) (key : ℕ) → k.ops.left w v key ≡ k.words (take (keep (items w ++ keyed i key (items v))) (items w ++ keyed i key (items v)))
-  pub right : (w v : List ℕ) (key : ℕ) → k.ops.right w v key ≡ k.words (drop (keep (items w ++ keyed i key (items v))) (items w ++ keyed i key (items v)))
-  pub mid : (w v : List ℕ) (key : ℕ) → k.ops.mid w v key ≡ front (drop (keep (items w ++ keyed i key (items v))) (items w ++ keyed i key (items v)))
+  pub is : (xs : List Item) → 1 ≤ length xs → length xs ≤ c → Is (words xs)
+  pub sixteen : (xs : List Item) → length (words xs) ≡ 16
+  pub counts : (xs : List Item) → 1 ≤ length xs → get_or (words xs) 0 0 ≡ t + length xs
+  pub size : (w v : List ℕ) (key : ℕ) → length (both t h words items w v key) ≡ (get_or w 0 0 - t) + (get_or v 0 0 - t)

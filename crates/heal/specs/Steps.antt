@@ -1,11 +1,11 @@
 -- DEFINITIONS. Taking an item out and healing upward, as steps on a state
 use Rattle.std.specs.Prelude.{List, ◌∷◌, ◌++◌, Bool, false, cond, ℕ, zero, suc, ◌+◌, ◌-◌, ◌*◌, take, drop, get_or, ltb, leb, eqb, Option, Some, None}
-use Rattle.forest.specs.Sizes.{leaf_cap, inner_cap, leaf_tag}
+use Rattle.forest.specs.Sizes.{leaf_cap, inner_cap}
 use Rattle.forest.specs.Pairs.{Item}
 use Rattle.forest.specs.Rows.{front}
 use Rattle.forest.specs.Pools.{leaf_words, inner_words}
 use Rattle.pool.specs.Stores.{put, no_words}
-use Rattle.node.specs.Nodes.{leaf_pairs, inner_items, leaf_cut, inner_cut, rekey_at, keep}
+use Rattle.node.specs.Nodes.{leaf_pairs, inner_items, keyed, cut_of, keep}
 use Rattle.crit.specs.States.{State, right_sibling, right_set, left_set, hand_key, stored, lives, next_node, through_right}
 
 -- The operations on a node's words, of a leaf or of an inner node
@@ -20,31 +20,29 @@ pub record Ops : Type 0 where
   pub right : List ℕ → List ℕ → ℕ → List ℕ
   pub mid : List ℕ → List ℕ → ℕ → ℕ
 
+-- those of a kind of node: its first word adds t to the number of items, and h first keys are stored nowhere
+module _ (t h : ℕ) (words : List Item → List ℕ) (items : List ℕ → List Item) where
+  -- the items of two neighbours; the key between them goes down if it is stored nowhere
+  abbrev pub both : List ℕ → List ℕ → ℕ → List Item
+  both w v k = items w ++ keyed h k (items v)
+
+  abbrev pub ops_of : Ops
+  ops_of = record {
+    entries = λ w. get_or w 0 0 - t;
+    cut = cut_of t words items;
+    gather = λ w v k. words (both w v k);
+    left = λ w v k. words (take (keep (both w v k)) (both w v k));
+    right = λ w v k. words (drop (keep (both w v k)) (both w v k));
+    mid = λ w v k. front (drop (keep (both w v k)) (both w v k));
+  }
+
 -- those of a leaf
 abbrev pub leaf_ops : Ops
-leaf_ops = record {
-  entries = λ w. get_or w 0 0 - leaf_tag;
-  cut = leaf_cut;
-  gather = λ w v k. leaf_words (leaf_pairs w ++ leaf_pairs v);
-  left = λ w v k. leaf_words (take (keep (leaf_pairs w ++ leaf_pairs v)) (leaf_pairs w ++ leaf_pairs v));
-  right = λ w v k. leaf_words (drop (keep (leaf_pairs w ++ leaf_pairs v)) (leaf_pairs w ++ leaf_pairs v));
-  mid = λ w v k. front (drop (keep (leaf_pairs w ++ leaf_pairs v)) (leaf_pairs w ++ leaf_pairs v));
-}
-
--- the items of two inner nodes; the key between them goes down
-abbrev pub both : List ℕ → List ℕ → ℕ → List Item
-both w v k = inner_items w ++ rekey_at 0 k (inner_items v)
+leaf_ops = ops_of 32 0 leaf_words leaf_pairs
 
 -- those of an inner node
 abbrev pub inner_ops : Ops
-inner_ops = record {
-  entries = λ w. get_or w 0 0 - 15;
-  cut = inner_cut;
-  gather = λ w v k. inner_words (both w v k);
-  left = λ w v k. inner_words (take (keep (both w v k)) (both w v k));
-  right = λ w v k. inner_words (drop (keep (both w v k)) (both w v k));
-  mid = λ w v k. front (drop (keep (both w v k)) (both w v k));
-}
+inner_ops = ops_of 15 1 inner_words inner_items
 
 -- Steps
 
