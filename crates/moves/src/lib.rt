@@ -139,6 +139,7 @@ fn at_first_entry(c: Cursor) -> bool
 }
 
 // Go to the pair before; from off the end to the last pair; on the first pair stay.
+// Off the end it goes on from the cursor that is there, and does not make one anew as `go` in path does.
 fn step_back(ws: &[u32], t: usize, c: Cursor) -> Cursor
     requires ready { Ready ws.now t c.tree }
     requires standing { Standing ws.now c }
