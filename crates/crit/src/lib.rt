@@ -1,5 +1,7 @@
 // The keys above a node and its right sibling, as the crate's path.rs has them: what healing reads and changes along the path.
 // Each search recurses over the level, as its definition does: a loop would be no plainer, and would need an invariant for each.
+// That the path stands in the words (`Route`) is asked by each and stands in no type: a ghost field has to be a proposition, and the check finds
+// none in it ("nothing proves `IsProp"); no test of the words tells it between two stores.
 #![tactic(auto)]
 
 ghost use Rattle.std.specs.Prelude.{◌≡◌, ◌<◌};

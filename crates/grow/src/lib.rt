@@ -86,7 +86,7 @@ fn split_and_insert(ws: &mut [u32], t: usize, c: Cursor, level: usize, key: u32,
     split_and_insert(ws, t, c, level - 1, split.key, rhs);
 }
 
-// The entry comes to place `at` of leaf n, in place, if there is room.
+// The entry comes to place `at` of leaf n, in place, if there is room: the crate's name and its answer, and nothing comes beside it.
 fn try_leaf_insert(ws: &mut [u32], t: usize, n: u32, at: usize, key: u32, value: u32) -> bool
     requires { LeafPlace ws.old t n at }
     ensures { Tries t n at (key, value) ws.old ws.new result }

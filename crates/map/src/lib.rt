@@ -92,7 +92,7 @@ fn held(look: Option<(u32, u32)>, key: u32) -> Option<Hit>
     }
 }
 
-// The calls for sound words
+// The calls for sound words: bare words, a tree number and a cursor, each with its demand, as the C interface hands them over
 
 // Whether a cursor stands in a tree that is there: then it may go to `sound_next` and the like.
 pub fn sound_stands(ws: &[u32], at: Cursor) -> bool

@@ -173,6 +173,7 @@ pub fn leaf(key: u32, value: u32) -> [u32; 16]
 }
 
 // The items of a node; where it stores no first key, that is `first`.
+// `K.Is` is asked by four functions and stands in no type: words come bare from the pool and go back bare, so a type round them would be no plainer.
 fn unpack<K: Kind>(w: [u32; 16], first: u32) -> Items
     requires { K.Is w }
     ensures { (result.count ≡ get_or w 0 0 - K.TAG) × (result ≡ items_of (keyed K.HIDDEN first (K.items w))) }

@@ -179,7 +179,7 @@ pub fn look_in(ws: &[u32], t: usize, n: u32, e: usize) -> Option<(u32, u32)>
     None
 }
 
-// The leaf that going down from a node comes to, `left` levels at most; no cursor is made.
+// The leaf that going down from a node comes to, `left` levels at most. It goes as `down` does, and makes no cursor, for speed (docs/SPEED.md).
 fn leaf_below(ws: &[u32], t: usize, way: Way, node: u32, left: usize) -> u32
     requires deep { Deep left ws.now t node }
     requires t_le_most_trees { t ≤ most_trees }

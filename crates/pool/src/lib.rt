@@ -8,7 +8,8 @@ ghost use Rattle.pool.specs.Stores.{Placed, Stocked, Freeable};
 
 use forest::{MAX_NODES, MAX_TREES, NODE_SIZE, Refusal, Reply};
 
-// The number of trees, T. It is handed along as `t`.
+// The number of trees, T. It is handed along as `t`. A struct of words and T would be no plainer: each function that stores would promise of
+// its `&mut` besides that T stays.
 pub fn tree_count(ws: &[u32]) -> usize
     requires { 1 ≤ length ws.now }
     ensures { result ≡ get_or ws.now 0 0 }

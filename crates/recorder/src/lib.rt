@@ -32,7 +32,7 @@ impl From<forest::Moved> for Moved {
     }
 }
 
-// The public calls, for any words
+// The public calls, for any words. Each export is a function of its own: the C interface
 
 // Whether the words are a sound pool.
 #[unsafe(no_mangle)]

@@ -151,7 +151,7 @@ fn from_the_right(rt: &impl Print, b: &mut [u32]) -> io::Result<()> {
     println!(rt; "{}", Words(b))
 }
 
-// Each key is taken out, the least first.
+// Each key is taken out, the least first. Over an iterator the two would be one, and ask of it what these ask nothing of (`can_next`, `IsFinite`).
 fn from_the_left(rt: &impl Print, b: &mut [u32]) -> io::Result<()> {
     long_tree(rt, "1 to 36, emptied from the left", b)?;
     for key in 1..37 {
