@@ -44,12 +44,12 @@ fn remove(rt: &impl Print, ws: &mut [u32], key: u32) -> io::Result<()> {
 
 // A put in tree 0, not told.
 fn put(ws: &mut [u32], key: u32) {
-    map::put(ws, 0, key, 7);
+    let _ = map::put(ws, 0, key, 7);
 }
 
 // Tree B: 10 to 70 and 35, in three nodes.
 fn tree_b(ws: &mut [u32]) {
-    pool::format(ws, 1, 3);
+    let _ = pool::format(ws, 1, 3);
     for key in (10..80).step_by(10) {
         put(ws, key);
     }
@@ -59,7 +59,7 @@ fn tree_b(ws: &mut [u32]) {
 // Keys 1 to 36, in 12 nodes, under a head.
 fn long_tree(rt: &impl Print, name: &str, ws: &mut [u32]) -> io::Result<()> {
     println!(rt; "{name}")?;
-    pool::format(ws, 1, 12);
+    let _ = pool::format(ws, 1, 12);
     for key in 1..37 {
         put(ws, key);
     }
@@ -106,7 +106,7 @@ fn and_next(rt: &impl Print) -> io::Result<()> {
 fn one_pair(rt: &impl Print) -> io::Result<()> {
     println!(rt; "P10: one pair, removed, and removed again")?;
     let mut b = [0; 38];
-    pool::format(&mut b, 1, 2);
+    let _ = pool::format(&mut b, 1, 2);
     put(&mut b, 9);
     remove(rt, &mut b, 9)?;
     remove(rt, &mut b, 9)?;
