@@ -17,9 +17,8 @@ pub fn right_sibling(ws: &[u32], t: usize, c: Cursor, level: usize) -> Option<(u
         return None;
     }
     let l = level - 1;
-    let n = c.nodes[l];
     let p = c.places[l] as usize;
-    let w = pool::load(ws, t, n);
+    let w = pool::load(ws, t, c.nodes[l]);
     if p + 16 < w[0] as usize {
         return Some((w[1 + p], w[9 + p]));
     }
@@ -62,8 +61,7 @@ fn current_crit_key(ws: &[u32], t: usize, c: Cursor, level: usize) -> Option<u32
     if p == 0 {
         return current_crit_key(ws, t, c, l);
     }
-    let n = c.nodes[l];
-    let w = pool::load(ws, t, n);
+    let w = pool::load(ws, t, c.nodes[l]);
     Some(w[p])
 }
 
@@ -107,9 +105,8 @@ fn next_path(ws: &[u32], t: usize, c: Cursor, level: usize) -> Option<Cursor>
         return None;
     }
     let l = level - 1;
-    let n = c.nodes[l];
     let p = c.places[l];
-    let w = pool::load(ws, t, n);
+    let w = pool::load(ws, t, c.nodes[l]);
     if p + 16 < w[0] {
         let mut d = c;
         d.nodes[level] = w[9 + p as usize];
@@ -117,8 +114,7 @@ fn next_path(ws: &[u32], t: usize, c: Cursor, level: usize) -> Option<Cursor>
         return Some(d);
     }
     let mut d = next_path(ws, t, c, l)?;
-    let q = d.nodes[l];
-    let v = pool::load(ws, t, q);
+    let v = pool::load(ws, t, d.nodes[l]);
     d.nodes[level] = v[8];
     d.places[l] = 0;
     Some(d)
