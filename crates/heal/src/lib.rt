@@ -143,12 +143,8 @@ fn update_front(ws: &mut [u32], t: usize, c: Cursor, level: usize)
     requires { AskFront ws.old t c level }
     ensures { Leaves (λ s. fronted leaf_ops leaf_cap inner_ops leaf_front s level) ws.old ws.new t c c }
 {
-    let p = c.places[level];
     let w = pool::load(ws, t, c.nodes[level]);
-    if w[0] <= 32 {
-        return;
-    }
-    if p == 0 {
+    if 32 < w[0] && c.places[level] == 0 {
         crit::update_crit_key(ws, t, c, level, w[1]);
     }
 }
