@@ -56,6 +56,7 @@ impl Sample for InnerNode {
         }
         let mut w = two_children();
         for i in 2..n {
+            // Not `w = next_child(w, i)`, for the same reason.
             let more = next_child(w, i);
             w = more;
         }
