@@ -13,10 +13,7 @@ pub fn right_sibling(ws: &[u32], t: usize, c: Cursor, level: usize) -> Option<(u
     requires { Route ws.now t c level }
     ensures { Finds ws.now t c level result }
 {
-    if level == 0 {
-        return None;
-    }
-    let l = level - 1;
+    let l = level.checked_sub(1)?;
     let p = c.places[l] as usize;
     let w = pool::load(ws, t, c.nodes[l]);
     if p + 16 < w[0] as usize {
@@ -33,10 +30,9 @@ pub fn update_right_crit_key(ws: &mut [u32], t: usize, c: Cursor, level: usize, 
     requires { Route ws.old t c level }
     ensures { Leaves (λ s. stored s (right_set s.st s.ns s.ps level key)) ws.old ws.new t c c }
 {
-    if level == 0 {
+    let Some(l) = level.checked_sub(1) else {
         return;
-    }
-    let l = level - 1;
+    };
     let n = c.nodes[l];
     let p = c.places[l] as usize;
     let mut w = pool::load(ws, t, n);
@@ -53,10 +49,7 @@ fn current_crit_key(ws: &[u32], t: usize, c: Cursor, level: usize) -> Option<u32
     requires { Route ws.now t c level }
     ensures { Crits ws.now t c level result }
 {
-    if level == 0 {
-        return None;
-    }
-    let l = level - 1;
+    let l = level.checked_sub(1)?;
     let p = c.places[l] as usize;
     if p == 0 {
         return current_crit_key(ws, t, c, l);
@@ -70,10 +63,9 @@ pub fn update_crit_key(ws: &mut [u32], t: usize, c: Cursor, level: usize, key: u
     requires { Route ws.old t c level }
     ensures { Leaves (λ s. stored s (left_set s.st s.ns s.ps level key)) ws.old ws.new t c c }
 {
-    if level == 0 {
+    let Some(l) = level.checked_sub(1) else {
         return;
-    }
-    let l = level - 1;
+    };
     let p = c.places[l] as usize;
     if p == 0 {
         update_crit_key(ws, t, c, l, key);
@@ -101,10 +93,7 @@ fn next_path(ws: &[u32], t: usize, c: Cursor, level: usize) -> Option<Cursor>
     requires { Route ws.now t c level }
     ensures { Nexts ws.now t c level result }
 {
-    if level == 0 {
-        return None;
-    }
-    let l = level - 1;
+    let l = level.checked_sub(1)?;
     let p = c.places[l];
     let w = pool::load(ws, t, c.nodes[l]);
     if p + 16 < w[0] {
