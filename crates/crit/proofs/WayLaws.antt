@@ -167,8 +167,8 @@ module _ {ws : List ℕ} {t : ℕ} {c : Cursor} {level : ℕ} (y : Route ws t c 
   way_word l h w e = rw e (way_few l h)
 
 -- there is a level above
-pub above : {level : ℕ} → (level ≡ 0 → ⊥) → suc (level - 1) ≡ level
-above h = omega arith
+pub above : {level l : ℕ} → (1 ≤ level) × (l ≡ level - 1) → suc l ≡ level
+above h = omega (arith, h)
 
-pub less : {level : ℕ} → (level ≡ 0 → ⊥) → level - 1 < level
-less h = omega arith
+pub less : {level l : ℕ} → (1 ≤ level) × (l ≡ level - 1) → l < level
+less h = omega (arith, h)

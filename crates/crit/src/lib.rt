@@ -15,13 +15,9 @@ pub fn right_sibling(ws: &[u32], t: usize, c: Cursor, level: usize) -> Option<(u
     requires { Route ws.now t c level }
     ensures { Finds ws.now t c level result }
 {
-    if level == 0 {
-        return None;
-    }
-    let l = level - 1;
-    let n = c.nodes[l];
+    let l = level.checked_sub(1)?;
     let p = c.places[l] as usize;
-    let w = pool::load(ws, t, n);
+    let w = pool::load(ws, t, c.nodes[l]);
     if p + 16 < w[0] as usize {
         return Some((w[1 + p], w[9 + p]));
     }
@@ -36,10 +32,9 @@ pub fn update_right_crit_key(ws: &mut [u32], t: usize, c: Cursor, level: usize, 
     requires { Route ws.old t c level }
     ensures { Leaves (λ s. stored s (right_set s.st s.ns s.ps level key)) ws.old ws.new t c c }
 {
-    if level == 0 {
+    let Some(l) = level.checked_sub(1) else {
         return;
-    }
-    let l = level - 1;
+    };
     let n = c.nodes[l];
     let p = c.places[l] as usize;
     let mut w = pool::load(ws, t, n);
@@ -56,16 +51,12 @@ fn current_crit_key(ws: &[u32], t: usize, c: Cursor, level: usize) -> Option<u32
     requires { Route ws.now t c level }
     ensures { Crits ws.now t c level result }
 {
-    if level == 0 {
-        return None;
-    }
-    let l = level - 1;
+    let l = level.checked_sub(1)?;
     let p = c.places[l] as usize;
     if p == 0 {
         return current_crit_key(ws, t, c, l);
     }
-    let n = c.nodes[l];
-    let w = pool::load(ws, t, n);
+    let w = pool::load(ws, t, c.nodes[l]);
     Some(w[p])
 }
 
@@ -74,10 +65,9 @@ pub fn update_crit_key(ws: &mut [u32], t: usize, c: Cursor, level: usize, key: u
     requires { Route ws.old t c level }
     ensures { Leaves (λ s. stored s (left_set s.st s.ns s.ps level key)) ws.old ws.new t c c }
 {
-    if level == 0 {
+    let Some(l) = level.checked_sub(1) else {
         return;
-    }
-    let l = level - 1;
+    };
     let p = c.places[l] as usize;
     if p == 0 {
         update_crit_key(ws, t, c, l, key);
@@ -105,13 +95,9 @@ fn next_path(ws: &[u32], t: usize, c: Cursor, level: usize) -> Option<Cursor>
     requires { Route ws.now t c level }
     ensures { Nexts ws.now t c level result }
 {
-    if level == 0 {
-        return None;
-    }
-    let l = level - 1;
-    let n = c.nodes[l];
+    let l = level.checked_sub(1)?;
     let p = c.places[l];
-    let w = pool::load(ws, t, n);
+    let w = pool::load(ws, t, c.nodes[l]);
     if p + 16 < w[0] {
         let mut d = c;
         d.nodes[level] = w[9 + p as usize];
@@ -119,8 +105,7 @@ fn next_path(ws: &[u32], t: usize, c: Cursor, level: usize) -> Option<Cursor>
         return Some(d);
     }
     let mut d = next_path(ws, t, c, l)?;
-    let q = d.nodes[l];
-    let v = pool::load(ws, t, q);
+    let v = pool::load(ws, t, d.nodes[l]);
     d.nodes[level] = v[8];
     d.places[l] = 0;
     Some(d)

@@ -42,6 +42,14 @@ module _ {ws : List ℕ} {t : ℕ} {c : Cursor} {level : ℕ} (a : AskFront ws t
           simp z sp;
     }
 
+    pub fronts_later : 32 < get_or w 0 0 → (get_or c.places level 0 ≡ 0 → ⊥) → Leaves (λ s. fronted leaf_ops 7 inner_ops leaf_front s level) ws ws t c c
+    fronts_later h p = record {
+      run = λ m sp.
+          let z : eqb (get_or (m.s.st (m.s.ns level)) 0 0 - 32) 0 ≡ false = rw (← (e ∙ front-block m sp)) (ne_eqb (get_or w 0 0 - 32) 0 (omega arith)) in
+          let y : eqb (m.s.ps level) 0 ≡ false = ne_eqb (m.s.ps level) 0 (λ q. p (sp.places level a.way.deep ∙ q)) in
+          simp (z, y) sp;
+    }
+
     pub fronts-first : {vs : List ℕ} → 32 < get_or w 0 0 → get_or c.places level 0 ≡ 0 → Leaves (λ s. stored s (left_set s.st s.ns s.ps level (get_or w 1 0))) ws vs t c c →
         Leaves (λ s. fronted leaf_ops 7 inner_ops leaf_front s level) ws vs t c c
     fronts-first {vs} h p f = record {

@@ -26,7 +26,7 @@ leaf_law low two half = record {
   mid_is = λ xs ys a b c d. rw (leaf_both xs ys b c);
 }
 
--- and they are node's
+-- leaves heal by them
 pub leaf_heals : HealLaws leaf_kind 7 32 0 leaf_words leaf_pairs Leaf
 leaf_heals = record {
   lawful = leaf_law 3 (omega arith) (omega arith);
@@ -52,7 +52,7 @@ inner_law = record {
   mid_is = λ xs ys a b c d. rw (inner_both xs ys a b (omega arith) c, length-rekey_at 0 0 (xs ++ ys)) (ap front (drop-first 0 (keep (xs ++ ys)) (xs ++ ys) (omega (arith, length-append xs ys))));
 }
 
--- and they are node's
+-- inner nodes heal by them
 pub inner_heals : HealLaws inner_kind 8 15 1 inner_words inner_items Inner
 inner_heals = record {
   lawful = inner_law;

@@ -23,7 +23,7 @@ pub record Lawful (o : Ops) (enc : List Item → List ℕ) (cap low : ℕ) : Typ
   pub mid_is : (xs ys : List Item) → 1 ≤ length xs → length xs ≤ cap → length ys ≤ cap → cap < length xs + length ys →
       o.mid (enc xs) (enc ys) (front ys) ≡ front (drop (keep (xs ++ ys)) (xs ++ ys))
 
--- the same of a kind, which is that of the nodes of capacity c, whose first word adds t to the number of items and of which h first keys are stored nowhere
+-- a kind is that of the nodes of capacity c, whose first word adds t to the number of items and of which h first keys are stored nowhere, and its operations do what they should
 pub record HealLaws (k : Kind) (c t h : ℕ) (words : List Item → List ℕ) (items : List ℕ → List Item) (Is : List ℕ → Type 0) : Type 0 where
   pub same : k ≡ record { ops = ops_of t h words items; words = words; cap = c; low = k.low }
   pub lawful : Lawful k.ops k.words k.cap k.low

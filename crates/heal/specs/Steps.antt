@@ -1,6 +1,6 @@
 -- DEFINITIONS. Taking an item out and healing upward, as steps on a state
 use Rattle.std.specs.Prelude.{List, ◌∷◌, ◌++◌, Bool, false, cond, ℕ, zero, suc, ◌+◌, ◌-◌, ◌*◌, take, drop, get_or, ltb, leb, eqb, Option, Some, None}
-use Rattle.forest.specs.Sizes.{leaf_cap, inner_cap}
+use Rattle.forest.specs.Sizes.{leaf_cap, inner_cap, leaf_tag}
 use Rattle.forest.specs.Pairs.{Item}
 use Rattle.forest.specs.Rows.{front}
 use Rattle.forest.specs.Pools.{leaf_words, inner_words}
@@ -20,12 +20,13 @@ pub record Ops : Type 0 where
   pub right : List ℕ → List ℕ → ℕ → List ℕ
   pub mid : List ℕ → List ℕ → ℕ → ℕ
 
--- those of a kind of node: its first word adds t to the number of items, and h first keys are stored nowhere
+-- Of a kind of node, whose first word adds t to the number of items and of which h first keys are stored nowhere
 module _ (t h : ℕ) (words : List Item → List ℕ) (items : List ℕ → List Item) where
   -- the items of two neighbours; the key between them goes down if it is stored nowhere
   abbrev pub both : List ℕ → List ℕ → ℕ → List Item
   both w v k = items w ++ keyed h k (items v)
 
+  -- its operations
   abbrev pub ops_of : Ops
   ops_of = record {
     entries = λ w. get_or w 0 0 - t;
@@ -38,7 +39,7 @@ module _ (t h : ℕ) (words : List Item → List ℕ) (items : List ℕ → List
 
 -- those of a leaf
 abbrev pub leaf_ops : Ops
-leaf_ops = ops_of 32 0 leaf_words leaf_pairs
+leaf_ops = ops_of leaf_tag 0 leaf_words leaf_pairs
 
 -- those of an inner node
 abbrev pub inner_ops : Ops

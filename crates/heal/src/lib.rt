@@ -53,8 +53,7 @@ fn no_right<K: Heals>(ws: &[u32], t: usize, c: Cursor, level: usize) -> Cursor
     requires { AskHeal K.kind ws.now t c Removed.Underflow level }
     ensures { Leaves (λ s. stayed K.kind s level) ws.now ws.now t c result }
 {
-    let n = c.nodes[level];
-    let w = pool::load(ws, t, n);
+    let w = pool::load(ws, t, c.nodes[level]);
     let left = w[0] - K::TAG;
     if c.places[level] < left {
         return c;
@@ -144,13 +143,8 @@ fn update_front(ws: &mut [u32], t: usize, c: Cursor, level: usize)
     requires { AskFront ws.old t c level }
     ensures { Leaves (λ s. fronted leaf_ops leaf_cap inner_ops leaf_front s level) ws.old ws.new t c c }
 {
-    let n = c.nodes[level];
-    let p = c.places[level];
-    let w = pool::load(ws, t, n);
-    if w[0] <= 32 {
-        return;
-    }
-    if p == 0 {
+    let w = pool::load(ws, t, c.nodes[level]);
+    if 32 < w[0] && c.places[level] == 0 {
         crit::update_crit_key(ws, t, c, level, w[1]);
     }
 }
