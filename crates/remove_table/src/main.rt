@@ -87,7 +87,7 @@ fn take(rt: &impl Print, ws: &mut [u32], key: u32) -> io::Result<Cursor> {
 }
 
 fn put(ws: &mut [u32], key: u32) {
-    map::put(ws, 0, key, 7);
+    let _ = map::put(ws, 0, key, 7);
 }
 
 // Keys `step`, twice `step` and so on are put, `n` of them.
@@ -105,7 +105,7 @@ fn rising(ws: &mut [u32], step: u32, n: u32)
 
 // Tree B: 10 to 70 and 35, in three nodes.
 fn tree_b(ws: &mut [u32]) {
-    pool::format(ws, 1, 3);
+    let _ = pool::format(ws, 1, 3);
     rising(ws, 10, 7);
     put(ws, 35);
 }
@@ -113,7 +113,7 @@ fn tree_b(ws: &mut [u32]) {
 // Keys 1 to 36, in 12 nodes, under a head.
 fn long_tree(rt: &impl Print, name: &[u8], ws: &mut [u32]) -> io::Result<()> {
     head(rt, name)?;
-    pool::format(ws, 1, 12);
+    let _ = pool::format(ws, 1, 12);
     rising(ws, 1, 36);
     Ok(())
 }
@@ -168,7 +168,7 @@ fn and_next(rt: &impl Print) -> io::Result<()> {
 fn one_pair(rt: &impl Print) -> io::Result<()> {
     head(rt, b"P10: one pair, removed, and removed again")?;
     let mut b = [0u32; 38];
-    pool::format(&mut b, 1, 2);
+    let _ = pool::format(&mut b, 1, 2);
     put(&mut b, 9);
     emptied(rt, &mut b, 9, 0, 2)?;
     show(rt, &b)
