@@ -39,7 +39,7 @@ pub enum Hit {
 // What a call answers: what it finds, if anything, or why it is refused.
 pub type Reply = Result<Option<Hit>, Refusal>;
 
-// An answer in document 01's numbers.
+// An answer in document 01's numbers, laid out for the C interface: a flag beside the values, and no Option.
 #[repr(C)]
 #[derive(Clone, Copy)]
 pub struct Answer {
@@ -59,7 +59,7 @@ pub struct Cursor {
     pub places: [u32; 16],
 }
 
-// What a cursor call hands back.
+// What a cursor call hands back. No Result: the C interface gives the cursor back on a refusal too.
 #[derive(Clone, Copy)]
 pub struct Moved {
     pub reply: Reply,

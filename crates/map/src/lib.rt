@@ -54,7 +54,7 @@ fn allow(ws: &[u32], at: Cursor) -> Result<(), Refusal>
     admit(ws, at)
 }
 
-// A move that is refused hands the cursor back.
+// A move that is refused hands the cursor back, which `?` would drop.
 fn refused(why: Refusal, at: Cursor) -> Moved
     ensures { result ≡ turned_back why at }
 {
