@@ -167,13 +167,23 @@ pub fn put(ws: &mut [u32], t: usize, tree: u32, key: u32, value: u32) -> Reply
     if pool::root(ws, tree) == 0 {
         return put_first(ws, t, tree, key, value);
     }
-    let foot = Tree { words: ws, trees: t, number: tree }.find_leaf(key);
+    let foot = Tree {
+        words: ws,
+        trees: t,
+        number: tree,
+    }
+    .find_leaf(key);
     if let Some(earlier) = replace(ws, t, foot.node, foot.place, key, value) {
         return Ok(Some(Hit::Value(earlier)));
     }
     if try_leaf_insert(ws, t, foot.node, foot.place, key, value) {
         return Ok(None);
     }
-    let c = Tree { words: ws, trees: t, number: tree }.find(key);
+    let c = Tree {
+        words: ws,
+        trees: t,
+        number: tree,
+    }
+    .find(key);
     add(ws, t, c, key, value)
 }

@@ -13,7 +13,6 @@ use forest::{Cursor, Hit, Moved, Refusal, Reply};
 use moves::MapCursor;
 use path::Tree;
 
-
 // That the words are a sound pool, or why a call is refused.
 fn checked(ws: &[u32]) -> Result<(), Refusal>
     ensures { Checks ws.now result }
@@ -72,7 +71,7 @@ fn standing(ws: &[u32], at: Cursor) -> MapCursor<'_>
     }
 }
 
-// A move that is refused hands the cursor back.
+// A move that is refused hands the cursor back, which `?` would drop.
 fn refused(why: Refusal, at: Cursor) -> Moved
     ensures { result ≡ turned_back why at }
 {

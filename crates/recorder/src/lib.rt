@@ -12,7 +12,7 @@ ghost use Rattle.map.specs.Numbers.{AnswersCall, AnswersMove};
 
 use forest::{Answer, Cursor};
 
-// What a cursor call hands back.
+// What a cursor call hands back, laid out for the C interface.
 #[repr(C)]
 #[derive(Clone, Copy)]
 pub struct Moved {

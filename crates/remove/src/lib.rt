@@ -134,6 +134,11 @@ pub fn remove_key(ws: &mut [u32], t: usize, tree: u32, key: u32, n: u32, at: usi
         take_out(ws, t, n, at);
         return;
     }
-    let c = Tree { words: ws, trees: t, number: tree }.find(key);
+    let c = Tree {
+        words: ws,
+        trees: t,
+        number: tree,
+    }
+    .find(key);
     remove(ws, t, c);
 }
