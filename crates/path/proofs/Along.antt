@@ -1,9 +1,9 @@
 -- PROOFS. A way down, from turn to turn of the loops that go it: at each turn a node is next, with some levels left
-use mathlib.Core.Path.{◌≡◌, sym, ◌∙◌}
+use mathlib.Core.Path.{◌≡◌, refl, sym, ◌∙◌}
 use mathlib.Core.List.{List}
 use Prim.Native.Nat.{ℕ, suc, ◌+◌, ◌-◌, ◌≤◌, ◌<◌}
 use native.Mathlib.Omega.{arith}
-use lib.ListN.{length, get_or}
+use lib.ListN.{length, get_or, set}
 use Rattle.forest.specs.Sizes.{most_levels}
 use Rattle.forest.specs.Slices.{KeysRise}
 use Rattle.forest.specs.declared.Cursor.{Cursor}
@@ -39,6 +39,11 @@ module _ {ws : List ℕ} {t n f : ℕ} (a : Along ws t n f) (h : 0 < f) where
     child i g k e =
         let z : f - 1 ≡ g = omega arith in
         record { deep = rw (← z) (child_deep f ws t n i (λ q. omega arith) a.deep w k) }
+
+-- the level that `down` writes by hand is the one that `push` puts on
+pub by_hand : (c : Cursor) (n i : ℕ) → record { tree = c.tree; size = c.size + 1; nodes = set c.nodes c.size n; places = set c.places c.size i } ≡ pushed c n i
+unfolding pushed
+by_hand c n i = refl
 
 -- what `down` has done, out of c and `node` with `left` levels
 pub record WentDown (way : Way) (ws : List ℕ) (t : ℕ) (c : Cursor) (node left : ℕ) (out : Cursor) (n f : ℕ) : Type 0 where

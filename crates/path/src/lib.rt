@@ -141,7 +141,11 @@ pub fn down(ws: &[u32], t: usize, way: Way, c: Cursor, node: u32, left: usize) -
             return push(out, n, land(ws, b, way));
         }
         let i = turn(ws, b, way);
-        out = push(out, n, i);
+        // By hand: `push` here was tried, and is slower, since it copies the whole cursor at each level.
+        let l = out.size as usize;
+        out.nodes[l] = n;
+        out.places[l] = i as u32;
+        out.size += 1;
         n = ws[b + 8 + i];
     }
     out

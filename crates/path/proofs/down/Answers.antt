@@ -1,6 +1,6 @@
 -- `path::down` meets its contract: at each turn the levels that are left go on from the cursor so far. Assumes nothing.
 use native.Mathlib.Omega.{arith}
-use Rattle.path.proofs.Along.{here, leaf_asks, inner_asks, child_few, down_end, down_ends, down_on}
+use Rattle.path.proofs.Along.{here, leaf_asks, inner_asks, child_few, down_end, down_ends, down_on, by_hand}
 use Rattle.path.proofs.down.Goals as goal
 
 pub overflow_sub-b : goal.overflow_sub-b
@@ -33,7 +33,7 @@ pub bounds-ws-b-in-loop : goal.bounds-ws-b-in-loop
 bounds-ws-b-in-loop c = (child_few c.loop.invariant.along (omega arith) c.if-ws-b-ge32.false _ c.turn-i.ensures.1).1
 
 pub loop-preserved : goal.loop-preserved
-loop-preserved c = down_on c.loop.invariant (omega arith) _ _ _ c.if-ws-b-ge32.false c.turn-i.ensures c.push-out.ensures (omega arith)
+loop-preserved c = down_on c.loop.invariant (omega arith) _ _ _ c.if-ws-b-ge32.false c.turn-i.ensures (by_hand c.loop.out c.loop.n c.turn-i.result) (omega arith)
 
 pub returns : goal.returns
 returns c = down_end c.loop.invariant (omega arith)
