@@ -4,7 +4,7 @@ use mathlib.Core.List.{List, [], ◌∷◌, ◌++◌}
 use mathlib.Core.Bool.{Bool, true, false, ◌&&◌}
 use Rattle.std.specs.Prelude.{Option, Some, None}
 use Rattle.std.proofs.lemmas.Option.{none-some, same_Some}
-use Prim.Native.Nat.{ℕ, zero, suc, ◌-◌, ◌*◌, ◌≤◌, ◌<◌}
+use Prim.Native.Nat.{ℕ, suc, ◌*◌, ◌≤◌, ◌<◌}
 use native.Mathlib.Omega.{arith}
 use lib.ListN.{length, get_or}
 use lib.Dec.{ltb, leb, eqb}
@@ -23,7 +23,7 @@ use Rattle.crit.specs.States.{State, right_sibling, next_node, through_right, st
 use Rattle.crit.specs.Paths.{num_at}
 use Rattle.crit.specs.Asks.{Mem, moved, Spelt, Route, Leaves, Finds, Passes}
 use Rattle.heal.specs.Steps.{inner_ops, heal_level, under_with, empty_node, empty_from, parent_cut, free_node}
-use Rattle.heal.specs.Wounds.{Emptied, Wounded, alive, dead, cut_row}
+use Rattle.heal.specs.Wounds.{Wounded, alive, dead, cut_row}
 use Rattle.heal.specs.Cycle.{Kind, inner_kind, emptied, left, standing, fits, gathered, stayed, healed, under, AskEmpty, AskHeal, Joined, Cuts, Mends, Settles}
 use Rattle.crit.proofs.HealMem
 use Rattle.crit.proofs.HealPath
@@ -250,43 +250,38 @@ module _ {ws : List ℕ} {t : ℕ} {c : Cursor} {level : ℕ} (a : AskEmpty ws t
   }
 
 -- empty_node's call
-pub ask_cut : {ws vs us : List ℕ} {t : ℕ} {c : Cursor} {level : ℕ} {status : Removed} → AskEmpty ws t c level → 0 < level → Leaves (λ s. free_node s (get_or c.nodes level 0)) ws vs t c c → Cuts inner_kind vs us t c (level - 1) status →
-    AskHeal inner_kind us t c status (level - 1)
-ask_cut {ws} {vs} {us} {t} {c} {level} {status} a h f k = by level a.deep h a.ready (a.spelt.nodes level a.deep) f k
+pub ask_cut : {ws vs us : List ℕ} {t : ℕ} {c : Cursor} {level l : ℕ} {status : Removed} → suc l ≡ level → AskEmpty ws t c level → Leaves (λ s. free_node s (get_or c.nodes level 0)) ws vs t c c → Cuts inner_kind vs us t c l status →
+    AskHeal inner_kind us t c status l
+ask_cut {ws} {vs} {us} {t} {c} {level} {l} {status} e =
+    subst (λ (z : ℕ). AskEmpty ws t c z → Leaves (λ s. free_node s (get_or c.nodes z 0)) ws vs t c c → Cuts inner_kind vs us t c l status → AskHeal inner_kind us t c status l) e asks
   where
-    by : (level : ℕ) → level < 16 → 0 < level → Emptied a.mem.count level a.mem.s → get_or c.nodes level 0 ≡ a.mem.s.ns level → Leaves (λ s. free_node s (get_or c.nodes level 0)) ws vs t c c → Cuts inner_kind vs us t c (level - 1) status →
-        AskHeal inner_kind us t c status (level - 1)
-    by zero d h e n f k = absurd (omega arith)
-    by (suc l) d h e n f k =
-        let z : suc l - 1 ≡ l = omega arith in
-        let k' : Cuts inner_kind vs us t c l status = rw z at k in
-        let m1 = moved a.mem (free_node a.mem.s (get_or c.nodes (suc l) 0)) in
-        let sp2 = k'.leaves m1 (f.run a.mem a.spelt) in
-        rw z (record {
-          deep = omega arith;
+    asks : AskEmpty ws t c (suc l) → Leaves (λ s. free_node s (get_or c.nodes (suc l) 0)) ws vs t c c → Cuts inner_kind vs us t c l status → AskHeal inner_kind us t c status l
+    asks a f k =
+        let n : get_or c.nodes (suc l) 0 ≡ a.mem.s.ns (suc l) = a.spelt.nodes (suc l) a.deep in
+        let sp2 = k.leaves (moved a.mem (free_node a.mem.s (get_or c.nodes (suc l) 0))) (f.run a.mem a.spelt) in
+        record {
+          deep = omega (arith, a.deep);
           mem = moved a.mem (parent_cut inner_ops (free_node a.mem.s (get_or c.nodes (suc l) 0)) l);
           spelt = sp2;
-          ready = subst (λ (x : ℕ). Wounded inner_kind.words 8 4 a.mem.count l (parent_cut inner_ops (free_node a.mem.s x) l)) (sym n) (ready_cut inner_law a.mem.count l a.mem.s e);
-          says = k'.says _ sp2;
-        })
+          ready = subst (λ (x : ℕ). Wounded inner_kind.words 8 4 a.mem.count l (parent_cut inner_ops (free_node a.mem.s x) l)) (sym n) (ready_cut inner_law a.mem.count l a.mem.s a.ready);
+          says = k.says _ sp2;
+        }
 
 -- empty_node's end
-pub empties : {ws vs us xs : List ℕ} {t : ℕ} {c d r : Cursor} {level : ℕ} {status : Removed} {near : Option Item} → level < 16 → 0 < level → Leaves (λ s. free_node s (get_or c.nodes level 0)) ws vs t c c → Finds vs t c level near →
-    Cuts inner_kind vs us t c (level - 1) status → Mends inner_kind us xs t c d status (level - 1) → Passes d r level near → Leaves (emptied level) ws xs t c r
+pub empties : {ws vs us xs : List ℕ} {t : ℕ} {c d r : Cursor} {level l : ℕ} {status : Removed} {near : Option Item} → suc l ≡ level → level < 16 → Leaves (λ s. free_node s (get_or c.nodes level 0)) ws vs t c c → Finds vs t c level near →
+    Cuts inner_kind vs us t c l status → Mends inner_kind us xs t c d status l → Passes d r level near → Leaves (emptied level) ws xs t c r
 unfolding emptied healed
-empties {ws} {vs} {us} {xs} {t} {c} {d} {r} {level} {status} {near} b h f g k e st = record { run = empties-run level b h f g k e st }
+empties {ws} {vs} {us} {xs} {t} {c} {d} {r} {level} {l} {status} {near} e =
+    subst (λ (z : ℕ). z < 16 → Leaves (λ s. free_node s (get_or c.nodes z 0)) ws vs t c c → Finds vs t c z near → Cuts inner_kind vs us t c l status → Mends inner_kind us xs t c d status l → Passes d r z near → Leaves (emptied z) ws xs t c r) e
+    (λ b f g k h st. record { run = ends b f g k h st })
   where
-    empties-run : (level : ℕ) → level < 16 → 0 < level → Leaves (λ s. free_node s (get_or c.nodes level 0)) ws vs t c c → Finds vs t c level near → Cuts inner_kind vs us t c (level - 1) status → Mends inner_kind us xs t c d status (level - 1) →
-        Passes d r level near → (m : Mem) → Spelt ws t c m → Spelt xs t r (moved m (emptied level m.s))
-    empties-run zero b h f g k e st m sp = absurd (omega arith)
-    empties-run (suc l) b h f g k e st m sp =
-        let z : suc l - 1 ≡ l = omega arith in
-        let k' : Cuts inner_kind vs us t c l status = rw z at k in
-        let e' : Mends inner_kind us xs t c d status l = rw z at e in
+    ends : suc l < 16 → Leaves (λ s. free_node s (get_or c.nodes (suc l) 0)) ws vs t c c → Finds vs t c (suc l) near → Cuts inner_kind vs us t c l status → Mends inner_kind us xs t c d status l →
+        Passes d r (suc l) near → (m : Mem) → Spelt ws t c m → Spelt xs t r (moved m (emptied (suc l) m.s))
+    ends b f g k h st m sp =
         let sp1 = f.run m sp in
         let nr = g.run (moved m (free_node m.s (get_or c.nodes (suc l) 0))) sp1 in
-        let sp2 = k'.leaves (moved m (free_node m.s (get_or c.nodes (suc l) 0))) sp1 in
-        let sp3 = e'.run (moved m (parent_cut inner_ops (free_node m.s (get_or c.nodes (suc l) 0)) l)) (k'.says _ sp2) sp2 in
+        let sp2 = k.leaves (moved m (free_node m.s (get_or c.nodes (suc l) 0))) sp1 in
+        let sp3 = h.run (moved m (parent_cut inner_ops (free_node m.s (get_or c.nodes (suc l) 0)) l)) (k.says _ sp2) sp2 in
         let sp4 = st.run xs t _ sp3 in
         let sp5 : Spelt xs t r (moved m (empty_from inner_ops (empty_node inner_ops l) l (get_or c.nodes (suc l) 0) m.s)) =
         subst (λ (x : Option Item). Spelt xs t r (moved m (through_right x (suc l) (heal_level inner_ops 8 (empty_node inner_ops l) l (parent_cut inner_ops (free_node m.s (get_or c.nodes (suc l) 0)) l))))) nr sp4 in

@@ -125,11 +125,10 @@ fn empty_node(ws: &mut [u32], t: usize, c: Cursor, level: usize) -> Cursor
 {
     let n = c.nodes[level];
     pool::free_node(ws, t, n);
-    if level == 0 {
+    let Some(l) = level.checked_sub(1) else {
         return crit::off_end(c);
-    }
+    };
     let near = crit::right_sibling(ws, t, c, level);
-    let l = level - 1;
     let status = cut::<InnerNode>(ws, t, c, l);
     let d = match heal_level::<InnerNode>(ws, t, c, status, l) {
         Some(d) => d,
