@@ -80,9 +80,7 @@ fn split_and_insert(ws: &mut [u32], t: usize, c: Cursor, level: usize, key: u32,
         return;
     }
     let split = node::split::<InnerNode>(w, at + 1, key, node);
-    let left = split.left;
-    let right = split.right;
-    let rhs = cut(ws, t, n, left, right);
+    let rhs = cut(ws, t, n, split.left, split.right);
     split_and_insert(ws, t, c, level - 1, split.key, rhs);
 }
 
@@ -112,9 +110,7 @@ fn insert(ws: &mut [u32], t: usize, c: Cursor, key: u32, value: u32)
     let n = c.nodes[level];
     let at = c.places[level] as usize;
     let split = node::split::<LeafNode>(pool::load(ws, t, n), at, key, value);
-    let left = split.left;
-    let right = split.right;
-    let rhs = cut(ws, t, n, left, right);
+    let rhs = cut(ws, t, n, split.left, split.right);
     split_and_insert(ws, t, c, level, split.key, rhs);
 }
 

@@ -131,16 +131,13 @@ pub fn sound_remove(ws: &mut [u32], tree: u32, key: u32) -> Reply
         return Ok(None);
     }
     let foot = here.find_leaf(key);
-    let n = foot.node;
-    let at = foot.place;
-    let look = path::look_in(ws, t, n, at);
-    let Some((k, value)) = look else {
+    let Some((k, value)) = path::look_in(ws, t, foot.node, foot.place) else {
         return Ok(None);
     };
     if k != key {
         return Ok(None);
     }
-    remove::remove_key(ws, t, tree, key, n, at);
+    remove::remove_key(ws, t, tree, key, foot.node, foot.place);
     Ok(Some(Hit::Value(value)))
 }
 

@@ -226,12 +226,8 @@ impl<'a> MapCursor<'a> {
     pub fn seen(self) -> Moved
         ensures { Seen self.entry.words.now self.entry.cursor result }
     {
-        let reply = match self.look() {
-            Some((key, value)) => Ok(Some(Hit::Pair(key, value))),
-            None => Ok(None),
-        };
         Moved {
-            reply,
+            reply: Ok(self.look().map(|(key, value)| Hit::Pair(key, value))),
             cursor: self.cursor,
         }
     }

@@ -13,7 +13,7 @@ ghost use Rattle.path.specs.Cores.{Goes, aim, LeafIn, look_in, Ends, Looks};
 
 use forest::Cursor;
 
-// Which way to go down: to the place of a key, to the first entry, or to the last.
+// Which way to go down: to the place of a key, to the first entry, or to the last. The definitions name the three, so it is no closure.
 #[derive(Clone, Copy)]
 pub enum Way {
     Key(u32),

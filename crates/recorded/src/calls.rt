@@ -86,7 +86,7 @@ fn cursor(r: &[u32; 37], at: usize) -> Cursor
     }
 }
 
-// Number, found, key and value are the recorded ones.
+// Number, found, key and value are the recorded ones. By hand: the record has found as a word, which may be no bool.
 fn same_answer(a: &Answer, r: &[u32; 37]) -> bool {
     a.number == r[4] && u32::from(a.found) == r[5] && a.key == r[6] && a.value == r[7]
 }

@@ -88,7 +88,7 @@ pub struct Got {
     pub count: usize,
 }
 
-// What a turn has read: the first `got.count` of the bytes.
+// What a turn has read: the first `got.count` of the bytes. An array, since there is no heap and a turn hands it back by value.
 #[derive(Clone, Copy)]
 pub struct Piece {
     pub bytes: [u8; 16],

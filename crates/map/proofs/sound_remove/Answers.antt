@@ -22,8 +22,8 @@ returns-then-root-eq0 c =
     let y = gate_ready c.in_ok-here.ensures _ refl in
     empty_calls c.args.ws.now _ c.args.tree c.args.key _ y c.root.ensures c.if-root-eq0.true
 
-pub look_in-look-requires : goal.look_in-look-requires
-look_in-look-requires c = let e = c.in_ok-here.ensures.passes _ refl in
+pub look_in-requires : goal.look_in-requires
+look_in-requires c = let e = c.in_ok-here.ensures.passes _ refl in
     let y = gate_ready c.in_ok-here.ensures _ refl in
     let d = of_tree (λ u n. Ends c.args.key u n c.find_leaf-foot.result.node c.find_leaf-foot.result.place) e c.find_leaf-foot.ensures in record {
       leaf_in = ends_in c.args.ws.now _ c.args.tree y c.args.key _ _ d;
@@ -35,27 +35,27 @@ returns-in_default c =
     let e = c.in_ok-here.ensures.passes _ refl in
     let y = gate_ready c.in_ok-here.ensures _ refl in
     let o = ends_looks c.args.ws.now _ c.args.tree y c.args.key _ _ (of_tree (λ u n. Ends c.args.key u n c.find_leaf-foot.result.node c.find_leaf-foot.result.place) e c.find_leaf-foot.ensures) in
-    absent_calls c.args.ws.now _ c.args.tree c.args.key y _ o (held_nothing _ _ (sym c.look_in-look.ensures ∙ c.in_default.is))
+    absent_calls c.args.ws.now _ c.args.tree c.args.key y _ o (held_nothing _ _ (sym c.look_in.ensures ∙ c.in_default.is))
 
 pub returns-then-k-key : goal.returns-then-k-key
 returns-then-k-key c =
     let e = c.in_ok-here.ensures.passes _ refl in
     let y = gate_ready c.in_ok-here.ensures _ refl in
     let o = ends_looks c.args.ws.now _ c.args.tree y c.args.key _ _ (of_tree (λ u n. Ends c.args.key u n c.find_leaf-foot.result.node c.find_leaf-foot.result.place) e c.find_leaf-foot.ensures) in
-    absent_calls c.args.ws.now _ c.args.tree c.args.key y _ o (sym (held_other _ _ _ _ (sym c.look_in-look.ensures ∙ c.in-Some.is) c.if-k-key.true))
+    absent_calls c.args.ws.now _ c.args.tree c.args.key y _ o (sym (held_other _ _ _ _ (sym c.look_in.ensures ∙ c.in-Some.is) c.if-k-key.true))
 
 pub remove_key-requires : goal.remove_key-requires
 remove_key-requires c =
     let e = c.in_ok-here.ensures.passes _ refl in
     let y = gate_ready c.in_ok-here.ensures _ refl in
-    ask_key c.args.ws.now _ c.args.tree c.args.key _ _ y (of_tree (λ u n. Ends c.args.key u n c.find_leaf-foot.result.node c.find_leaf-foot.result.place) e c.find_leaf-foot.ensures) _ _ (sym c.look_in-look.ensures ∙ c.in-Some.is)
+    ask_key c.args.ws.now _ c.args.tree c.args.key _ _ y (of_tree (λ u n. Ends c.args.key u n c.find_leaf-foot.result.node c.find_leaf-foot.result.place) e c.find_leaf-foot.ensures) _ _ (sym c.look_in.ensures ∙ c.in-Some.is)
 
 pub returns : goal.returns
 returns c =
     let e = c.in_ok-here.ensures.passes _ refl in
     let y = gate_ready c.in_ok-here.ensures _ refl in
     let o = ends_looks c.args.ws.now _ c.args.tree y c.args.key _ _ (of_tree (λ u n. Ends c.args.key u n c.find_leaf-foot.result.node c.find_leaf-foot.result.place) e c.find_leaf-foot.ensures) in
-    removed-calls c.args.ws.now _ c.args.tree c.args.key y _ o _ _ (sym c.look_in-look.ensures ∙ c.in-Some.is) c.if-k-key.false _ c.remove_key.ensures
+    removed-calls c.args.ws.now _ c.args.tree c.args.key y _ o _ _ (sym c.look_in.ensures ∙ c.in-Some.is) c.if-k-key.false _ c.remove_key.ensures
 
 pub returns-in_err-here : goal.returns-in_err-here
 returns-in_err-here c =
