@@ -9,7 +9,7 @@ use Rattle.forest.specs.Sizes.{most_levels}
 use Rattle.forest.specs.Lists.{pad}
 use Rattle.forest.specs.Rows.{Row, Tree, nums}
 use Rattle.forest.specs.Pools.{Pool, tree_of}
-use Rattle.forest.specs.Cursors.{Spot, off, on, leaves, size_at, Fits, prev, Path, path_up, path_of, cursor_at}
+use Rattle.forest.specs.Cursors.{Spot, off, on, leaves, size_at, Fits, settle, next, prev, Path, path_up, path_of, cursor_at}
 use Rattle.forest.specs.declared.Cursor.{Cursor}
 use Rattle.forest.proofs.RowLaws.{length-items}
 use Rattle.path.specs.Ways.{base}
@@ -17,7 +17,7 @@ use Rattle.path.specs.Cores.{Ready, Of, At, Standing, Goes}
 use Rattle.path.proofs.Seats.{off_is, up_append, up_none, Seat, seat, seat-size, leaf_node, leaf_place, leaf_entries_lem, row_is}
 use Rattle.path.proofs.Made.{made_at, made_stands}
 use Rattle.path.proofs.Roots.{the_pool}
-use Rattle.moves.specs.Moves.{entered, Steps, at_entry, next_leaf, prev_leaf}
+use Rattle.moves.specs.Moves.{entered, Steps, next_leaf, prev_leaf}
 
 -- Where moves come to, a cursor can stand
 
@@ -92,6 +92,15 @@ module _ (ws : List ℕ) (t : ℕ) (c : Cursor) where
           q ∙ entered-path p s u k ∙ ap (cursor_at c.tree) (sym (ap (path_of (tree_of p c.tree)) e ∙ ap (λ (x : Tree). path_of x (on u.j k)) u.tree_is));
     }
 
+    -- nowhere
+    pub step_none : ((L : Row) (j e : ℕ) → get_or ws (base t (get_or c.nodes (c.size - 1) 0)) 0 ≡ 32 + size_at L j → get_or c.places (c.size - 1) 0 ≡ e → f L (on j e) ≡ on j e) → Steps f ws c c
+    step_none g = record {
+      to = λ p s o a.
+          let u = seat ws t c y h p s o a in
+          let e : f (leaves (tree_of p c.tree)) s ≡ s = seat-spot p s u f ∙ g u.L u.j u.e (seat_entries p s u) (leaf_place ws t c p s u) ∙ sym u.spot_is in
+          sym (ap (λ (v : Spot). cursor_at c.tree (path_of (tree_of p c.tree) v)) e ∙ a.same);
+    }
+
     -- where another move goes
     pub step_as : (g : Row → Spot → Spot) (r : Cursor) → Steps g ws c r →
         ((L : Row) (j e : ℕ) → get_or ws (base t (get_or c.nodes (c.size - 1) 0)) 0 ≡ 32 + size_at L j → get_or c.places (c.size - 1) 0 ≡ e → f L (on j e) ≡ g L (on j e)) → Steps f ws c r
@@ -125,12 +134,18 @@ back_last ws c r h g = record { to = λ p s o a. g.to p o ∙ ap (λ (v : Spot).
 
 -- What each move does in a leaf of so many entries
 
-module _ (L : Row) (j e k n : ℕ) (q : n ≡ size_at L j) where
-  pub entry_within : k < n → at_entry k L (on j e) ≡ on j k
-  entry_within h = simp (lt-ltb k (size_at L j) (omega arith))
+module _ (L : Row) (j e n : ℕ) (q : n ≡ size_at L j) where
+  pub next_within : e + 1 < n → next L (on j e) ≡ on j (e + 1)
+  next_within h = let z : e + 1 ≡ suc e = omega arith in rw z (simp (lt-ltb (suc e) (size_at L j) (omega arith)))
 
-  pub entry_beyond : n ≤ k → at_entry k L (on j e) ≡ next_leaf L (on j e)
-  entry_beyond h = simp (le-ltb k (size_at L j) (omega arith))
+  pub next_beyond : n ≤ e + 1 → next L (on j e) ≡ next_leaf L (on j e)
+  next_beyond h = simp (le-ltb (suc e) (size_at L j) (omega arith))
+
+  pub settle_within : e < n → settle L (on j e) ≡ on j e
+  settle_within h = simp (lt-ltb e (size_at L j) (omega arith))
+
+  pub settle_beyond : n ≤ e → settle L (on j e) ≡ next_leaf L (on j e)
+  settle_beyond h = simp (le-ltb e (size_at L j) (omega arith))
 
 pub prev_within : (L : Row) (j e : ℕ) → (e ≡ 0 → ⊥) → prev L (on j e) ≡ on j (e - 1)
 prev_within L j zero h = absurd (h refl)

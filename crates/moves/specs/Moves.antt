@@ -1,7 +1,7 @@
 -- DEFINITIONS. What the moves of a cursor promise: another place in a level, and for every well formed pool whose words these are, the spot that a move comes to
-use Rattle.std.specs.Prelude.{◌≡◌, List, is_none, Bool, cond, ◌&&◌, ℕ, zero, suc, ◌+◌, ◌-◌, ◌≤◌, ◌<◌, length, get_or, set, ltb, eqb}
+use Rattle.std.specs.Prelude.{◌≡◌, List, is_none, Bool, ◌&&◌, ℕ, zero, suc, ◌+◌, ◌-◌, ◌≤◌, ◌<◌, length, get_or, set, ltb, eqb}
 use Rattle.forest.specs.Sizes.{most_trees, most_nodes}
-use Rattle.forest.specs.Cursors.{cursor_at, Spot, off, on, leaves, size_at, pair_at, leaf_start, leaf_end, path_of, prev, prev_pair}
+use Rattle.forest.specs.Cursors.{cursor_at, Spot, off, on, leaves, pair_at, leaf_start, leaf_end, path_of, prev, prev_pair}
 use Rattle.forest.specs.declared.Cursor.{Cursor}
 use Rattle.forest.specs.Rows.{Row}
 use Rattle.forest.specs.Pools.{Pool, tree_of}
@@ -41,11 +41,6 @@ branched way ws t c l place =
 -- from where c stands, d is the cursor of the spot f
 pub record Steps (f : Row → Spot → Spot) (ws : List ℕ) (c d : Cursor) : Type 0 where
   pub to : (p : Pool) (s : Spot) → Of ws p → At p c s → d ≡ cursor_at c.tree (path_of (tree_of p c.tree) (f (leaves (tree_of p c.tree)) s))
-
--- place k of the leaf; where the leaf has no such place, the first pair of the next leaf
-abbrev pub at_entry : ℕ → Row → Spot → Spot
-at_entry k L off = off
-at_entry k L (on j e) = cond (ltb k (size_at L j)) (on j k) (leaf_start L (suc j))
 
 -- the first pair of the next leaf
 abbrev pub next_leaf : Row → Spot → Spot

@@ -8,12 +8,13 @@ ghost use Rattle.path.specs.Ways.{base};
 ghost use Rattle.sound.specs.Checks.{checked};
 ghost use Rattle.path.specs.Cores.{Standing, Goes, Sees};
 ghost use Rattle.stand.specs.Runs.{stands_at};
-ghost use Rattle.moves.specs.Moves.{Level, branched, entered, at_first, Steps, Seen, Back, at_entry, next_leaf, prev_leaf};
+ghost use Rattle.moves.specs.Moves.{Level, branched, entered, at_first, Steps, Seen, Back, next_leaf, prev_leaf};
 
 use forest::{Cursor, Hit, Moved};
 use path::{Tree, Way};
 
 // A cursor that stands in its tree, as the crate's MapCursor: the words of a sound pool, their number of trees, and where it is.
+// It holds no `Tree`: the tree's number stands in the cursor already. Size 0 is off the end, so four of its methods ask for a level.
 #[derive(Clone, Copy)]
 pub struct MapCursor<'a> {
     pub words: &'a [u32],
@@ -140,18 +141,7 @@ impl<'a> MapCursor<'a> {
         self.words[b] - 32
     }
 
-    // A place of the leaf; where the leaf has no such place, the first pair of the next leaf.
-    fn goto_entry(self, entry: u32) -> Cursor
-        requires { 1 ≤ self.cursor.size }
-        ensures { Steps (at_entry entry) self.entry.words.now self.entry.cursor result }
-    {
-        if entry < self.leaf_entries() {
-            return set_entry(self.cursor, self.cursor.size as usize - 1, entry);
-        }
-        self.next_node()
-    }
-
-    // Where the next pair is.
+    // Where the next pair is. Apart from `normal_place`, which differs by one: a wrong program of each is tried (must-fail).
     fn next_place(self) -> Cursor
         ensures { Steps next self.entry.words.now self.entry.cursor result }
     {
@@ -159,7 +149,12 @@ impl<'a> MapCursor<'a> {
         if size == 0 {
             return self.cursor;
         }
-        self.goto_entry(self.cursor.places[size - 1] + 1)
+        let entry = self.cursor.places[size - 1];
+        let n = self.leaf_entries();
+        if entry + 1 < n {
+            return set_entry(self.cursor, size - 1, entry + 1);
+        }
+        self.next_node()
     }
 
     // Go to the next pair.
@@ -178,7 +173,12 @@ impl<'a> MapCursor<'a> {
         if size == 0 {
             return self.cursor;
         }
-        self.goto_entry(self.cursor.places[size - 1])
+        let entry = self.cursor.places[size - 1];
+        let n = self.leaf_entries();
+        if entry < n {
+            return self.cursor;
+        }
+        self.next_node()
     }
 
     // From one past a leaf's last entry go to the first pair of the next leaf.
