@@ -53,7 +53,7 @@ fn need_above(ws: &[u32], t: usize, c: Cursor, level: usize) -> u32
     1 + need_above(ws, t, c, level - 1)
 }
 
-// How many nodes a new entry takes where the path stands, in a full leaf.
+// How many nodes a new entry takes where the path stands, in a full leaf. That it has a level is a bound that three functions ask, as an index does.
 fn need(ws: &[u32], t: usize, c: Cursor) -> u32
     requires { (1 ≤ c.size) × Lands ws.now t c.tree c.nodes c.places (c.size - 1) }
     ensures { (s : Scene) (p : ℕ) → Land s p ws.now t c.tree c.nodes c.places (c.size - 1) → result ≡ leaf_need s }

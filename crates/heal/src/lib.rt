@@ -1,4 +1,5 @@
 // Healing upward after an item went, as the crate's path.rs has it: the cut, the balance with the right sibling, the empty node, and the leaf at the bottom.
+// What each asks of the path and the words (`AskHeal`) stands in no type, as `Route` in crit: it holds between two stores alone.
 #![tactic(auto)]
 
 ghost use Rattle.std.specs.Prelude.{◌-◌, ◌<◌};
@@ -61,7 +62,7 @@ fn no_right<K: Heals>(ws: &[u32], t: usize, c: Cursor, level: usize) -> Cursor
     crit::off_end(c)
 }
 
-// A node gives all its items to its right sibling, or they share; was it all?
+// A node gives all its items to its right sibling, or they share; was it all? That is a question: nothing comes beside its answer.
 fn join<K: Heals>(ws: &mut [u32], t: usize, c: Cursor, level: usize, key: u32, node: u32) -> bool
     requires { AskJoin K.kind ws.old t c level key node }
     ensures { Joined K.kind ws.old ws.new t c level result }

@@ -45,7 +45,7 @@ fn admit(ws: &[u32], at: Cursor) -> Result<(), Refusal>
     ensures { Admits ws.now at result }
 {
     let tree = gate(ws, at.tree)?;
-    if !stand::stands(ws, tree.trees, at) {
+    if !stand::stands(&tree, at) {
         return Err(Refusal::NoPlace);
     }
     Ok(())
@@ -71,7 +71,8 @@ fn standing(ws: &[u32], at: Cursor) -> MapCursor<'_>
     }
 }
 
-// A move that is refused hands the cursor back, which `?` would drop.
+// A move that is refused hands the cursor back, which `?` would drop. The six calls that match so differ in the call alone: over a closure each
+// demand of it (`Stood`) and its promise (`Moves`) would be said of the closure besides, and be no plainer.
 fn refused(why: Refusal, at: Cursor) -> Moved
     ensures { result ≡ turned_back why at }
 {

@@ -13,7 +13,7 @@ ghost use Rattle.path.specs.Cores.{Goes, aim, LeafIn, look_in, Ends, Looks};
 
 use forest::Cursor;
 
-// Which way to go down: to the place of a key, to the first entry, or to the last. The definitions name the three, so it is no closure.
+// Which way to go down: to the place of a key, to the first entry, or to the last. A closure in its place would be no plainer: `turn` and `land` each differ by it.
 #[derive(Clone, Copy)]
 pub enum Way {
     Key(u32),
@@ -92,7 +92,8 @@ pub fn cut(c: Cursor, l: usize) -> Cursor
 
 // Going down
 
-// The child to follow in the inner node at b.
+// The child to follow in the inner node at b. That its words lie there and its keys rise is asked by this and by `land` of each node on the
+// way, as it comes (`Lies`): a type round a place would be built at each and be no plainer.
 fn turn(ws: &[u32], b: usize, way: Way) -> usize
     requires b_in_bounds { b + 16 ≤ length ws.now }
     requires bound { (16 ≤ get_or ws.now b 0) × (get_or ws.now b 0 ≤ 23) }
@@ -151,7 +152,7 @@ pub fn down(ws: &[u32], t: usize, way: Way, c: Cursor, node: u32, left: usize) -
     out
 }
 
-// Where a cursor stands
+// Where a path branches off, and what stands in a leaf
 
 // The deepest level above `level` with more to the right.
 pub fn right_sibling_branch_level(ws: &[u32], t: usize, c: Cursor, level: usize) -> Option<usize>

@@ -1,4 +1,6 @@
 // The pool of nodes: its layout in the words, reading and storing a node, taking and freeing one, formatting.
+// Nodes are numbers in one block of words, and word 0 of a node tells its kind: fixed memory, and the C interface. That the number of a tree is
+// within the words is a bound that four functions ask, as an index does.
 #![tactic(auto)]
 
 ghost use Rattle.std.specs.Prelude.{◌≡◌, ◌+◌, ◌*◌, ◌≤◌, ◌<◌, length, get_or, set};
@@ -9,7 +11,7 @@ ghost use Rattle.pool.specs.Stores.{Placed, Stocked, Freeable};
 use forest::{MAX_NODES, MAX_TREES, NODE_SIZE, Refusal, Reply};
 
 // The number of trees, T. It is handed along as `t`. A struct of words and T would be no plainer: each function that stores would promise of
-// its `&mut` besides that T stays.
+// its `&mut` besides that T stays, and those that read are called between stores.
 pub fn tree_count(ws: &[u32]) -> usize
     requires { 1 ≤ length ws.now }
     ensures { result ≡ get_or ws.now 0 0 }

@@ -24,7 +24,7 @@ fn pass(rt: &impl Input, stop: u8) -> io::Result<()> {
     Ok(())
 }
 
-// The first letter of a word that a space ends, none at the end of the input.
+// The first letter of a word that a space ends, none at the end of the input and for a zero byte.
 pub fn word(rt: &impl Input) -> io::Result<Option<u8>> {
     let first = byte(rt)?;
     pass(rt, b' ')?;

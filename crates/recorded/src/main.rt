@@ -14,7 +14,7 @@ use std::fmt;
 
 // The words of the largest pool.
 const ROOM: usize = MAX_TREES as usize + 17 * MAX_NODES as usize + 3;
-// The first word of the file.
+// The first word of the file: compared with this number alone, and no kind is told by it.
 const KIND: u32 = 1;
 
 // Why the run stops. An unknown call and a pool out of range tell their list and call.
@@ -114,7 +114,7 @@ fn run(
 ) -> Result<u64, Stop>
     ensures { IfOk result (λ differ. differ ≤ 4294967296) }
 {
-    if forest::Answer::from(pool::format(ws, trees, nodes)).number != 0 {
+    if pool::format(ws, trees, nodes).is_err() {
         return Err(Stop::OutOfRange(list));
     }
     compared(rt, ws, list, count)

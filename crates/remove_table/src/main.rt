@@ -2,6 +2,8 @@
 // trees emptied from each end.
 #![tactic(auto)]
 
+ghost use Rattle.std.specs.Prelude.{◌<◌};
+
 use forest::{Cursor, Moved};
 use lines::{Numbers, Words};
 use std::io;
@@ -142,20 +144,13 @@ fn right_end(rt: &impl Print, b: &mut [u32]) -> io::Result<()> {
     println!(rt; "{}", Words(b))
 }
 
-// Each key is taken out, the greatest first.
-fn from_the_right(rt: &impl Print, b: &mut [u32]) -> io::Result<()> {
-    long_tree(rt, "1 to 36, emptied from the right", b)?;
-    for key in (1..37).rev() {
-        remove(rt, b, key)?;
-    }
-    println!(rt; "{}", Words(b))
-}
-
-// Each key is taken out, the least first. Over an iterator the two would be one, and ask of it what these ask nothing of (`can_next`, `IsFinite`).
-fn from_the_left(rt: &impl Print, b: &mut [u32]) -> io::Result<()> {
-    long_tree(rt, "1 to 36, emptied from the left", b)?;
-    for key in 1..37 {
-        remove(rt, b, key)?;
+// Each key is taken out, from `from` on, each `step` further, modulo 37.
+fn all(rt: &impl Print, name: &str, b: &mut [u32], from: u32, step: u32) -> io::Result<()>
+    requires { (from < 37) × (step < 37) }
+{
+    long_tree(rt, name, b)?;
+    for i in 0..36 {
+        remove(rt, b, (from + i * step) % 37)?;
     }
     println!(rt; "{}", Words(b))
 }
@@ -165,8 +160,8 @@ fn long_trees(rt: &impl Print) -> io::Result<()> {
     let mut b = [0; 208];
     merges(rt, &mut b)?;
     right_end(rt, &mut b)?;
-    from_the_right(rt, &mut b)?;
-    from_the_left(rt, &mut b)
+    all(rt, "1 to 36, emptied from the right", &mut b, 36, 36)?;
+    all(rt, "1 to 36, emptied from the left", &mut b, 1, 1)
 }
 
 // What is refused.

@@ -11,7 +11,7 @@ ghost use Rattle.requests.specs.Program.{bytes_of, following};
 
 use forest::{Answer, Reply};
 
-// The first word of a delivery.
+// The first word of a delivery: compared with this number alone, and no kind is told by it.
 const KIND: u32 = 2;
 // Requests of a delivery at most.
 const MAX_REQUESTS: u32 = 4096;
@@ -177,13 +177,12 @@ fn after_kind(b: &[u8]) -> Turn
 fn after_format(words: usize, reply: Reply) -> Turn
     ensures { result ≡ after_format words (answer_of reply) }
 {
-    let answer = Answer::from(reply);
-    if answer.number == 0 {
+    if reply.is_ok() {
         return go(Stage::Count(words));
     }
     Turn {
         stage: Stage::Stopped,
-        said: Some(answer),
+        said: Some(reply.into()),
     }
 }
 
@@ -293,7 +292,7 @@ fn digits(out: &mut [u8], at: usize, most: usize, n: u32) -> usize
     digits(out, at - 1, most - 1, n / 10)
 }
 
-// The line of an answer, at the end of `out`: where it starts. The bytes before it stay.
+// The line of an answer, at the end of `out`: where it starts. The bytes before it stay. By hand, as `digits`.
 fn write_line(out: &mut [u8], answer: Answer) -> usize
     requires { length out.old ≡ 24 }
     ensures text { out.new ≡ take result out.old ++ line answer }

@@ -18,7 +18,9 @@ use Rattle.forest.proofs.ListLaws.{is, isnt, test, tests, both}
 use Rattle.forest.proofs.RowLaws.{length-items}
 use Rattle.forest.proofs.CursorLaws.{runs_yes, runs-fits, runs_path}
 use Rattle.path.specs.Ways.{base, block, Deep, Lies}
+use Rattle.path.specs.declared.Tree as code
 use Rattle.path.specs.Cores.{Ready, Of}
+use Rattle.path.proofs.Trees.{tree_ready}
 use Rattle.path.proofs.NodeWords.{grouped}
 use Rattle.path.proofs.Laid.{Laid, RowIn, RowsIn, size_bounds, ParentRow, parent_row, child_at, child_of, parent_in, offset_in, inside, leaf_first, inner_first}
 use Rattle.path.proofs.Steps.{first_word, link_word_at, inner_bounds, lies_of, child_deep}
@@ -174,6 +176,10 @@ stands_words ws t c y p o = ap (λ (b : Bool). clean c && b) (go (tree_of p c.tr
         let k : suc s - 0 ≡ suc s = omega arith in
         rw (z, q, ne_eqb (root_above L Rs) 0 (omega arith), e, ne_eqb (suc s) 0 (omega arith), k)
         (runs_words ws t L Rs (lies_there ws t c.tree y p o L Rs q) (levels_of (suc s) c.nodes c.places) (omega arith))
+
+-- a tree is ready, and so is that of a cursor of its number
+pub tree_stands : (x : code.Tree) (c : Cursor) → c.tree ≡ x.number → Ready x.words.now x.trees c.tree
+tree_stands x c e = rw e (tree_ready x)
 
 pub tells_by : (ws : List ℕ) (t : ℕ) (c : Cursor) (r : Bool) → Ready ws t c.tree → r ≡ stands_at ws t (get_or ws (1 + c.tree) 0) c → Tells ws c r
 tells_by ws t c r y e = record { tells = λ p o. e ∙ stands_words ws t c y p o }

@@ -5,10 +5,10 @@ ghost use Rattle.std.specs.Prelude.{◌≡◌, ◌-◌, ◌≤◌};
 ghost use Rattle.forest.specs.Sizes.{most_trees, most_levels};
 ghost use Rattle.forest.specs.Cursors.{clean};
 ghost use Rattle.path.specs.Ways.{Deep};
-ghost use Rattle.path.specs.Cores.{Ready};
 ghost use Rattle.stand.specs.Runs.{runs_from, levels_from, Tells};
 
 use forest::Cursor;
+use path::Tree;
 
 // Whether the levels from l on run from a node to a leaf.
 fn runs_from(ws: &[u32], t: usize, c: Cursor, l: usize, node: u32) -> bool
@@ -40,10 +40,10 @@ fn is_clean(c: Cursor) -> bool
         && walk::are_zero(&c.places, size, 16 - size)
 }
 
-// Whether a cursor stands.
-pub fn stands(ws: &[u32], t: usize, c: Cursor) -> bool
-    requires { Ready ws.now t c.tree }
-    ensures { Tells ws.now c result }
+// Whether a cursor of a tree stands.
+pub fn stands(tree: &Tree, c: Cursor) -> bool
+    requires { c.tree ≡ tree.now.number }
+    ensures { Tells tree.now.words.now c result }
 {
     if !is_clean(c) {
         return false;
@@ -51,6 +51,6 @@ pub fn stands(ws: &[u32], t: usize, c: Cursor) -> bool
     if c.size == 0 {
         return true;
     }
-    let root = ws[1 + c.tree as usize];
-    root != 0 && runs_from(ws, t, c, 0, root)
+    let root = tree.words[1 + c.tree as usize];
+    root != 0 && runs_from(tree.words, tree.trees, c, 0, root)
 }
