@@ -118,7 +118,8 @@ pub fn off_end(c: Cursor) -> Cursor
     Cursor { size: 0, ..c }
 }
 
-// Moves to the first entry of the next node at a level; off the end if there is none.
+// Moves to the first entry of the next node at a level; off the end if there is none. Apart from the one in moves, whose words are those of a sound
+// pool: these are in the middle of healing, where other laws hold (docs/DECISIONS.md 25).
 pub fn next_node(ws: &[u32], t: usize, c: Cursor, level: usize) -> Cursor
     requires { Route ws.now t c level }
     ensures { Leaves (next_node level) ws.now ws.now t c result }

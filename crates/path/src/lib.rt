@@ -128,7 +128,8 @@ fn land(ws: &[u32], b: usize, way: Way) -> usize
     }
 }
 
-// From a node down to a leaf, `left` levels at most.
+// From a node down to a leaf, `left` levels at most. That every way down stays in the words (`Deep`) is asked by the three that go down, of
+// another node and level each time: no type holds it, since the next one would be built at each step.
 pub fn down(ws: &[u32], t: usize, way: Way, c: Cursor, node: u32, left: usize) -> Cursor
     requires deep { Deep left ws.now t node }
     requires t_le_most_trees { (t ≤ most_trees) × (c.size + left ≤ most_levels) }
