@@ -19,7 +19,7 @@ const ROOM: usize = MAX_TREES as usize + 17 * MAX_NODES as usize + 3;
 // Words that are kept of a pool of the input.
 const PART: usize = 256;
 
-// Words that are kept of all four.
+// Words that are kept of all four, in one array: there is no heap.
 const KEPT: usize = 4 * PART;
 
 // A pool that the input names.

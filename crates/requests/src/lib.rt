@@ -306,7 +306,8 @@ fn write_line(out: &mut [u8], answer: Answer) -> usize
     digits(out, value - 3, 10, answer.number)
 }
 
-// The text of what is said, at the end of a buffer that is as long as the longest line: where it starts. The bytes before it stay.
+// The text of what is said, at the end of a buffer that is as long as the longest line: where it starts. The bytes before it stay. A lent array,
+// since there is no heap.
 pub fn write_said(out: &mut [u8; 24], said: Option<Answer>) -> usize
     ensures text { out.new ≡ take result out.old ++ lines (spoken said) }
     ensures start { (result ≤ 24) × (length out.new ≡ 24) }
