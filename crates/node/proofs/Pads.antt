@@ -2,10 +2,9 @@
 use mathlib.Core.Path.{◌≡◌, refl, sym, ap, ◌∙◌}
 use mathlib.Core.List.{List, [], ◌∷◌, ◌++◌, append-nil}
 use Prim.Native.Nat.{ℕ, zero, suc, ◌+◌, ◌-◌, ◌≤◌, ◌<◌}
-use native.Mathlib.Numerals.{add-one}
 use native.Mathlib.Omega.{arith}
 use lib.ListN.{length, take, drop, get_or, set, length-append, length-drop, drop_of_length-le}
-use lib.Seq.{paste, paste-suc, drop-nil, length-take-le, take-length, take_all, get_or-drop, set_at, drop-cons}
+use lib.Seq.{paste, drop-nil, length-take-le, take-length, take_all, set_at, drop-cons}
 use borrow.Rule.Slice.PartMut.{put_mid}
 use Rattle.forest.specs.Lists.{insert_at, remove_at, pad}
 use Rattle.forest.specs.Slices.{inserted, shifted}
@@ -85,13 +84,6 @@ append-pad m xs ys h =
     let b : take (length ys) (pad m ys) ≡ ys = pad_part m 0 (length ys) ys (omega arith) (omega arith) ∙ take-length ys in
     rw (a, b, pad-drop (length xs + length ys) m xs, drop_of_length-le xs {i = length xs + length ys} (omega arith), sym (length-append xs ys))
     (pad_fill m (xs ++ ys) (omega (arith, length-append xs ys)))
-
--- a turn of the copy: o is the array so far
-pub copied_more : (a o b : List ℕ) (to from i : ℕ) → to + i < length a → from + i < length b → o ≡ paste a to (drop from b) i →
-    set o (to + i) (get_or b (from + i) 0) ≡ paste a to (drop from b) (i + 1)
-copied_more a o b to from i h l e =
-    rw (e, sym (get_or-drop from b i 0), add-one)
-    (paste-suc a to (drop from b) i 0 h (simp length-drop (omega arith)))
 
 -- a word goes: what stands behind it moves up, and a 0 comes to the end
 shift_words : (n at : ℕ) (a : List ℕ) → length a ≡ suc n → at < suc n → set (take at a ++ shifted (drop at a) 1) n 0 ≡ pad (suc n) (remove_at at a)

@@ -27,10 +27,7 @@ pub fn copied(a: [u32; 16], to: usize, b: [u32; 16], from: usize, n: usize) -> [
     ensures { result ≡ paste a to (drop from b) n }
 {
     let mut out = a;
-    // copy_from_slice is slower: `cut_at` took 1.75 times the instructions with it
-    for i in 0..n {
-        out[to + i] = b[from + i];
-    }
+    out[to..to + n].copy_from_slice(&b[from..from + n]);
     out
 }
 
