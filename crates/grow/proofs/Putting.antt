@@ -1,15 +1,17 @@
 -- PROOFS. A put on sound words: in an empty tree, where the key is there, and where it is absent
 use mathlib.Core.Path.{◌≡◌, refl, sym, ap, ◌∙◌}
 use mathlib.Core.List.{List, [], ◌∷◌, map}
+use mathlib.Core.Logic.{◌⊎◌, ⊎_elim}
 use Prim.Native.Nat.{ℕ, ◌+◌, ◌≤◌, ◌<◌}
 use native.Mathlib.Omega.{arith}
 use lib.ListN.{length, drop, get_or, set, length-map}
 use Rattle.std.specs.Prelude.{Err}
-use Rattle.forest.specs.Answers.{nothing}
+use Rattle.forest.specs.Answers.{Reply, nothing, value, pair}
 use Rattle.forest.specs.Sizes.{leaf_least}
 use Rattle.forest.specs.Rows.{Tree}
 use Rattle.forest.specs.Trees.{need}
 use Rattle.forest.specs.Pools
+use Rattle.forest.specs.declared.Refusal.{Refusal}
 use Rattle.forest.specs.declared.Refusal.TheVariants.{NoRoom}
 use Rattle.forest.proofs.CountLaws.{nodes_all, node-length}
 use Rattle.pool.specs.Stores.{spell, stack_at, free_count, Sixteen}
@@ -23,6 +25,15 @@ use Rattle.grow.proofs.Mem
 use Rattle.grow.proofs.Pooled
 use Rattle.grow.proofs.Spelling
 use Rattle.grow.proofs.Calls
+
+-- The variant of a reply
+pub no_nothing : (r : Reply) (v : ℕ) → r ≡ value v → r ≡ nothing → ⊥
+no_nothing r v h e = let z : value v ≡ nothing = sym h ∙ e in cc
+
+pub no_value : (r : Reply) → (r ≡ nothing) ⊎ (((k w : ℕ) × (r ≡ pair k w)) ⊎ ((x : Refusal) × (r ≡ Err x))) → (v : ℕ) → r ≡ value v → ⊥
+no_value r h v e =
+    ⊎_elim (λ q. let z : nothing ≡ value v = sym q ∙ e in cc)
+    (λ l. ⊎_elim (λ q. let z : pair q.0 q.1 ≡ value v = sym q.2 ∙ e in cc) (λ q. let z : Err q.0 ≡ value v = sym q.1 ∙ e in cc) l) h
 
 module _ (ws : List ℕ) (t tree : ℕ) (y : Ready ws t tree) where
   pub root_asks : tree + 1 < length ws

@@ -171,6 +171,7 @@ pub fn sound_first(ws: &[u32], at: Cursor) -> Moved
 }
 
 // From one past a leaf's last entry go to the pair after it; nothing is told.
+#[inline]
 pub fn sound_settle(ws: &[u32], at: Cursor) -> Moved
     requires { Stood ws.now at }
     ensures { Moves leaf_least to_settled at ws.now ws.now result.reply result.cursor }
@@ -183,6 +184,7 @@ pub fn sound_settle(ws: &[u32], at: Cursor) -> Moved
 }
 
 // Go to the next pair, and tell it; after the last the cursor is off the end.
+#[inline]
 pub fn sound_next(ws: &[u32], at: Cursor) -> Moved
     requires { Stood ws.now at }
     ensures { Moves leaf_least to_next at ws.now ws.now result.reply result.cursor }

@@ -15,6 +15,7 @@ use path::{Tree, Way};
 
 // A cursor that stands in its tree, as the crate's MapCursor: the words of a sound pool, their number of trees, and where it is.
 // It holds no `Tree`: the tree's number stands in the cursor already. Size 0 is off the end, so four of its methods ask for a level.
+// It goes by value, so the two steps to another leaf, and settle and next in map, have a hint to be inlined: without it they copy a cursor once or twice more.
 #[derive(Clone, Copy)]
 pub struct MapCursor<'a> {
     pub words: &'a [u32],
@@ -86,6 +87,7 @@ impl<'a> MapCursor<'a> {
     }
 
     // Keep the levels above level l, take another child there, and go down.
+    #[inline]
     fn branch_off(self, way: Way, l: usize, place: usize) -> Cursor
         requires level { Level self.words.now self.trees self.cursor l }
         requires place_bound { place + 16 ≤ get_or self.words.now (base self.trees (get_or self.cursor.nodes l 0)) 0 }
@@ -100,6 +102,7 @@ impl<'a> MapCursor<'a> {
 
     // The first pair of the next leaf, or off the end if there is none. It shares `branch_off` with `prev_leaf`, and no more: the level,
     // the place and the end without a level are each its own.
+    #[inline]
     fn next_node(self) -> Cursor
         requires { 1 ≤ self.cursor.size }
         ensures { Steps next_leaf self.entry.words.now self.entry.cursor result }

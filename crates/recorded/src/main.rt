@@ -6,9 +6,9 @@
 mod calls;
 mod input;
 
-ghost use Rattle.std.specs.Prelude.{◌≤◌, IfOk};
+ghost use Rattle.std.specs.Prelude.{◌≡◌, ◌+◌, ◌≤◌, IfOk};
 
-use calls::{Call, Unknown};
+use calls::{Call, Differs, Unknown};
 use forest::{MAX_NODES, MAX_TREES};
 use std::fmt;
 
@@ -52,8 +52,27 @@ struct Tally {
     differ: u64,
 }
 
-// The next record of the input, read, made and compared: the differences, none or one. A line that can't be written is let go, here and
-// below: the comparison goes on.
+impl Tally {
+    // So many calls, and so many differences.
+    fn new(calls: u32, differ: u64) -> Tally
+        ensures { (result.calls ≡ calls) × (result.differ ≡ differ) }
+    {
+        Tally {
+            calls: u64::from(calls),
+            differ,
+        }
+    }
+}
+
+// The line of a call that differs: one difference. A line that can't be written is let go, here and below: the comparison goes on.
+fn call_differs(rt: &impl Print, list: u32, call: u32, part: Differs) -> u64
+    ensures { result ≡ 1 }
+{
+    let _ = println!(rt; "list {list}: call {call} differs in the {part}");
+    1
+}
+
+// The next record of the input, read, made and compared: the differences, none or one.
 fn record(rt: &(impl Input + Print), ws: &mut [u32], list: u32, call: u32) -> Result<u64, Stop>
     ensures { IfOk result (λ differ. differ ≤ 1) }
 {
@@ -62,8 +81,7 @@ fn record(rt: &(impl Input + Print), ws: &mut [u32], list: u32, call: u32) -> Re
     let Err(part) = calls::judge(ws, which, &r) else {
         return Ok(0);
     };
-    let _ = println!(rt; "list {list}: call {call} differs in the {part}");
-    Ok(1)
+    Ok(call_differs(rt, list, call, part))
 }
 
 // The records of a list: the differences.
@@ -88,19 +106,41 @@ fn same_words(rt: &impl Input, ws: &[u32]) -> Result<bool, Stop> {
     Ok(same)
 }
 
-// The records of a list and the words at its end: the differences. Other words there are one difference more.
-fn compared(rt: &(impl Input + Print), ws: &mut [u32], list: u32, count: u32) -> Result<u64, Stop>
-    ensures { IfOk result (λ differ. differ ≤ 4294967296) }
+// The line of a list that ends with other words: one difference more.
+fn words_differ(rt: &impl Print, list: u32, differ: u64) -> u64
+    requires { differ ≤ 4294967295 }
+    ensures { result ≡ differ + 1 }
 {
-    let differ = records(rt, ws, list, count)?;
+    let _ = println!(rt; "list {list}: the words at the end differ");
+    differ + 1
+}
+
+// The end of a list of so many calls, in which so many differ: the differences with those of the words there.
+fn closed(
+    rt: &(impl Input + Print),
+    ws: &[u32],
+    list: u32,
+    count: u32,
+    differ: u64,
+) -> Result<u64, Stop>
+    requires { differ ≤ 4294967295 }
+    ensures { IfOk result (λ all. (differ ≤ all) × (all ≤ differ + 1)) }
+{
     if !same_words(rt, ws)? {
-        let _ = println!(rt; "list {list}: the words at the end differ");
-        return Ok(differ + 1);
+        return Ok(words_differ(rt, list, differ));
     }
     if differ == 0 {
         let _ = println!(rt; "list {list}: {count} calls agree");
     }
     Ok(differ)
+}
+
+// The records of a list and the words at its end: the differences. Other words there are one difference more.
+fn compared(rt: &(impl Input + Print), ws: &mut [u32], list: u32, count: u32) -> Result<u64, Stop>
+    ensures { IfOk result (λ differ. differ ≤ count + 1) }
+{
+    let differ = records(rt, ws, list, count)?;
+    closed(rt, ws, list, count, differ)
 }
 
 // A list on words that become a fresh pool, where T and N are in range.
@@ -132,10 +172,7 @@ fn next_list(rt: &(impl Input + Print), space: &mut [u32], list: u32) -> Result<
     let [trees, nodes, count] = input::read_words::<3>(rt).ok_or(Stop::EndsEarly)?;
     let n = pool_words(trees, nodes).min(space.len());
     let differ = run(rt, &mut space[..n], list, trees, nodes, count)?;
-    Ok(Tally {
-        calls: u64::from(count),
-        differ,
-    })
+    Ok(Tally::new(count, differ))
 }
 
 // So many lists.

@@ -115,6 +115,16 @@ all-marked ms (suc n) =
     let e : 1 + n ≡ suc n = omega arith in
     all_more (has ms) 1 n ∙ rw (e, all-marked ms n)
 
+-- one number that is not marked settles it, and one that is leaves it to those below
+module _ (ms : List ℕ) where
+  pub all_no : (k : ℕ) → 0 < k → has ms k ≡ false → all_marked ms k ≡ false
+  all_no zero h e = absurd (omega arith)
+  all_no (suc k) h e = rw e
+
+  pub all_on : (k : ℕ) → 0 < k → has ms k ≡ true → all_marked ms k ≡ all_marked ms (k - 1)
+  all_on zero h e = absurd (omega arith)
+  all_on (suc k) h e = let d : suc k - 1 ≡ k = omega arith in rw (e, d)
+
 -- the stack and the whole
 module _ (ws : List ℕ) (T N F : ℕ) (ms : List ℕ) where
   pub stack_no : None ≡ free_walk ws T N F (T + 3 + 16 * N) ms → stacked ws T N F ms ≡ false
