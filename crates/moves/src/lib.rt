@@ -15,7 +15,8 @@ use path::{Tree, Way};
 
 // A cursor that stands in its tree, as the crate's MapCursor: the words of a sound pool, their number of trees, and where it is.
 // It holds no `Tree`: the tree's number stands in the cursor already. Size 0 is off the end, so four of its methods ask for a level.
-// It goes by value, so the two steps to another leaf, and settle and next in map, have a hint to be inlined: without it they copy a cursor once or twice more.
+// It goes by value, so `branch_off` and `next_node`, and settle and next in map, have a hint to be inlined, without which these copy a cursor once
+// or twice more, and `prev_leaf` one not to be: prev within a leaf would pay for it (docs/DESIGN-PASS.md, Speed).
 #[derive(Clone, Copy)]
 pub struct MapCursor<'a> {
     pub words: &'a [u32],
@@ -121,6 +122,7 @@ impl<'a> MapCursor<'a> {
     }
 
     // The last pair of the leaf before; in the first leaf where it is.
+    #[inline(never)]
     fn prev_leaf(self) -> Cursor
         requires { 1 ≤ self.cursor.size }
         ensures { Steps prev_leaf self.entry.words.now self.entry.cursor result }
